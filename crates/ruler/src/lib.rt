@@ -1,0 +1,28 @@
+// The ruler: a word, an i32, as the natural number that is 2^31 more.
+ghost use mathlib.Core.Path.{_≡_};
+ghost use Prim.Native.Nat.{_<_, _^_};
+ghost use lib.IntN.{pos};
+ghost use Rattle.ruler.specs.Ruler.{AtIs, ruler, word};
+
+pub fn at(x: i32) -> u64
+    ensures { λ r. ⌜ AtIs x r ⌝ }
+{
+    let wide = x as i64;
+    (wide + 2147483648) as u64
+}
+
+pub fn word_at(n: u64) -> i32
+    requires { ⌜ n < 2 ^ 32 ⌝ }
+    ensures { λ r. ⌜ r ≡ word n ⌝ }
+{
+    let wide = n as i64;
+    (wide - 2147483648) as i32
+}
+
+// A count as a word.
+pub fn count(n: u64) -> i32
+    requires { ⌜ n < 2 ^ 31 ⌝ }
+    ensures { λ r. ⌜ r ≡ pos n ⌝ }
+{
+    n as i32
+}

@@ -1,0 +1,14 @@
+pub mod Cases
+pub mod Sums
+pub mod Count
+pub mod Picture
+pub mod Plane
+pub mod Strips
+pub mod Runs
+pub mod StripAt
+pub mod Tiling
+pub mod Stitches
+pub mod WidestDrawn
+pub mod DrawnWidest
+pub mod Turns
+pub mod Walk

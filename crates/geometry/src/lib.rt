@@ -1,0 +1,1 @@
+// Pure mathematics of tiles: the definitions and laws stand in specs/.

@@ -1,0 +1,9 @@
+pub mod Words
+pub mod Sound
+pub mod Fresh
+pub mod View
+pub mod Reading
+pub mod Forms
+pub mod FreshSound
+pub mod Decide
+pub mod Examples

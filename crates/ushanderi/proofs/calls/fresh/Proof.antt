@@ -1,0 +1,44 @@
+use mathlib.Core.Path.{refl}
+use native.Mathlib.Omega.{arith}
+use Rattle.geometry.specs.Cases.{yes, no}
+use Rattle.ushanderi.specs.Promises.{size, done}
+use borrow.Author.Needs.{needs}
+use Rattle.ushanderi.proofs.calls.fresh.Statement.{statement}
+use Rattle.ushanderi.proofs.calls.fresh.Tie as tie
+use Rattle.ushanderi.proofs.calls.fresh.Reads as reads
+use Rattle.ushanderi.proofs.calls.fresh.Lts as lts
+use Rattle.table.proofs.fresh.Reads as fresh-reads
+use Rattle.table.proofs.size_right.Reads as size-right-reads
+
+-- src/calls.rt:8:8
+size-right-requires : tie.Need-size-right-requires
+size-right-requires c κs = search needs
+
+-- src/calls.rt:9:9
+fresh-requires : tie.Need-fresh-requires
+fresh-requires c κs =
+    let h = yes (c .before .before .size-right .ensures) (c .before .if1 .taken) in
+    omega (arith, h .least)
+
+-- src/calls.rt:5:1
+same-length : tie.Need-same-length
+same-length c = search needs
+
+-- src/calls.rt:5:1
+returns : tie.Need-returns
+returns c =
+    let k = c .before .before .before in
+    done (yes (k .before .size-right .ensures) (k .if1 .taken)) refl (c .before .fresh .ensures)
+
+-- src/calls.rt:5:1
+same-length-2 : tie.Need-same-length-2
+same-length-2 c = search needs
+
+-- src/calls.rt:5:1
+returns-2 : tie.Need-returns-2
+returns-2 c = size (no (c .before .size-right .ensures) (c .if1 .left)) refl refl
+
+pub fresh-spec : {M : Type 1} → statement M
+fresh-spec =
+    tie.close
+    (tie.spec size-right-requires fresh-requires same-length returns same-length-2 returns-2)

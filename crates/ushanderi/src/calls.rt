@@ -1,0 +1,32 @@
+// The calls, each with its promise as its whole contract.
+ghost use Rattle.ushanderi.specs.Promises.{FreshSays, CheckSays, ViewSays};
+use crate::answer::Answer;
+use crate::answer::DONE;
+use crate::answer::SIZE;
+use crate::answer::UNSOUND;
+
+pub fn fresh(t: &mut [i32]) -> Answer
+    ensures { λ r. ⌜ FreshSays (now (t .entry)) (now (t .exit)) r ⌝ }
+{
+    if table::size_right(t) {
+        table::fresh(t);
+        Answer {
+            number: DONE,
+            value: 0,
+        }
+    } else {
+        Answer {
+            number: SIZE,
+            value: 0,
+        }
+    }
+}
+
+pub fn view(t: &[i32], index: i32) -> &[i32]
+    ensures { λ r. ⌜ ViewSays (now (t .entry)) index (now r) ⌝ }
+{
+    let p = table::place(t, index);
+    let at = p.at;
+    let end = at + p.len;
+    &t[at..end]
+}

@@ -1,0 +1,4 @@
+// The server: the calls that a host makes. Every table and every number is answered, and no call asks for anything beforehand.
+pub mod answer;
+pub mod calls;
+pub mod host;

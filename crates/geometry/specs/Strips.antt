@@ -69,7 +69,7 @@ module _ (P : Plane) (solid : ℕ → Bool) (S : Strips P solid) where
       )
 
   -- the tile right of a tile begins where that ends
-  right-side : (i s y : ℕ) → Is P i → P .b i ≤ y → y < P .t i → Holds P s (P .r i) y → P .l s ≡ P .r i
+  pub right-side : (i s y : ℕ) → Is P i → P .b i ≤ y → y < P .t i → Holds P s (P .r i) y → P .l s ≡ P .r i
   right-side i s y u h k v =
       let w = S .formed i u in
       lt-cases (P .l s) (P .r i) (λ q. omega (arith, same i s (P .r i - 1) y u (v .is) (omega arith) (omega arith))) (λ q. omega arith)

@@ -115,3 +115,6 @@ pub pos-ruler : (x : ℤ) → 2147483648 ≤ ruler x → x ≡ pos (ruler x - 21
 unfolding ruler
 pos-ruler (pos n) h = let e : n ≡ n + 2147483648 - 2147483648 = omega arith in ap pos e
 pos-ruler (negsuc n) h = absurd (omega arith)
+
+pub count-bits : (n : ℕ) (r : ℤ) → r ≡ pos n → n < 2 ^ 31 → toZ w32 (ofZ w32 r) ≡ pos n
+count-bits n r e h = ap (λ z. toZ w32 (ofZ w32 z)) e ∙ toZ-ofZ {w = w32} (record { sfits = h })

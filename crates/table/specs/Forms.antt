@@ -137,7 +137,7 @@ module _ (t : List ℤ) (few : recordsOf t ≤ 4016) where
         outside = λ n. none-link w (lt-cases LOW y (λ h. d .right (lt-cases x HIGH (λ k. absurd (n (omega arith))) (λ k. k))) (λ h. d .under h));
       }
 
-  stitched-good : Widest (recordsOf t) (tileOf t) → ((i : ℕ) → UsedIn t i → Stitched t i) → Good (planeIn t) (stitchesIn t)
+  pub stitched-good : Widest (recordsOf t) (tileOf t) → ((i : ℕ) → UsedIn t i → Stitched t i) → Good (planeIn t) (stitchesIn t)
   stitched-good w s =
       let g = w .strips in
       record {
@@ -151,7 +151,7 @@ module _ (t : List ℤ) (few : recordsOf t ≤ 4016) where
         lb = λ i u. let f = g .formed i u in names-down (num t i LB) (num t i LEFT) (num t i BOTTOM) (f .x-lo) (omega arith) (s i (is-used t i u) .lb);
       }
 
-  good-stitched : Good (planeIn t) (stitchesIn t) → (i : ℕ) → UsedIn t i → Stitched t i
+  pub good-stitched : Good (planeIn t) (stitchesIn t) → (i : ℕ) → UsedIn t i → Stitched t i
   good-stitched g i v =
       let u = used-is t i v in
       let f = g .formed i u in

@@ -7,7 +7,7 @@ ghost use lib.IntN.{pos};
 ghost use mathlib.Core.List.{_++_};
 ghost use lib.ListN.{length, drop, replicate};
 ghost use Rattle.table.specs.Fresh.{wholePlane, freshTable};
-ghost use Rattle.table.specs.Sound.{SizeRight};
+ghost use Rattle.table.specs.Sound.{SizeRight, capacity};
 ghost use Rattle.table.specs.View.{Places};
 ghost use Rattle.table.specs.Words.{WIDTH, recordsOf};
 ghost use Rattle.table.specs.Reading.{WordIs, Reads, write};
@@ -41,6 +41,21 @@ pub struct Record {
     pub lb: u64,
     pub kind: u64,
     pub label: u64,
+}
+
+// How many records the words make.
+pub fn records(t: &[i32]) -> usize
+    ensures { λ r. ⌜ r ≡ recordsOf (now (t .entry)) ⌝ }
+{
+    t.len() / WIDTH
+}
+
+// How many solids a table of the right size takes.
+pub fn capacity(t: &[i32]) -> usize
+    requires { ⌜ SizeRight (now t) ⌝ }
+    ensures { λ r. ⌜ r ≡ capacity (recordsOf (now (t .entry))) ⌝ }
+{
+    (records(t) - 16) / 4
 }
 
 // The number of word k of record i.
@@ -129,14 +144,8 @@ pub fn fresh(t: &mut [i32])
     whole_plane(t);
 }
 
-// How many records the words make.
-pub fn records(t: &[i32]) -> usize
-    ensures { λ r. ⌜ r ≡ recordsOf (now (t .entry)) ⌝ }
-{
-    t.len() / WIDTH
-}
-
 // Where the words of a record lie: the first of them, and how many there are.
+#[repr(C)]
 pub struct Part {
     pub at: usize,
     pub len: usize,

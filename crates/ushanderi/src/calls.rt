@@ -4,6 +4,8 @@ use crate::answer::Answer;
 use crate::answer::DONE;
 use crate::answer::SIZE;
 use crate::answer::UNSOUND;
+use crate::entry::Entry;
+use crate::entry::admit;
 
 pub fn fresh(t: &mut [i32]) -> Answer
     ensures { λ r. ⌜ FreshSays (now (t .entry)) (now (t .exit)) r ⌝ }
@@ -19,6 +21,26 @@ pub fn fresh(t: &mut [i32]) -> Answer
             number: SIZE,
             value: 0,
         }
+    }
+}
+
+pub fn check(t: &[i32]) -> Answer
+    ensures { λ r. ⌜ CheckSays (now (t .entry)) r ⌝ }
+{
+    let e = admit(t);
+    match e {
+        Entry::Size => Answer {
+            number: SIZE,
+            value: 0,
+        },
+        Entry::Unsound => Answer {
+            number: UNSOUND,
+            value: 0,
+        },
+        Entry::Sound(solids) => Answer {
+            number: DONE,
+            value: ruler::count(solids as u64),
+        },
     }
 }
 

@@ -1,7 +1,7 @@
 use mathlib.Core.Path.{refl}
 use native.Mathlib.Omega.{arith}
 use Rattle.geometry.specs.Cases.{yes, no}
-use Rattle.ushanderi.specs.Promises.{size, done}
+use Rattle.ushanderi.specs.Promises.{FreshSays}
 use borrow.Author.Needs.{needs}
 use Rattle.ushanderi.proofs.calls.fresh.Statement.{statement}
 use Rattle.ushanderi.proofs.calls.fresh.Tie as tie
@@ -28,7 +28,7 @@ same-length c = search needs
 returns : tie.Need-returns
 returns c =
     let k = c .before .before .before in
-    done (yes (k .before .size-right .ensures) (k .if1 .taken)) refl (c .before .fresh .ensures)
+    FreshSays.done (yes (k .before .size-right .ensures) (k .if1 .taken)) refl (c .before .fresh .ensures)
 
 -- src/calls.rt:5:1
 same-length-2 : tie.Need-same-length-2
@@ -36,7 +36,7 @@ same-length-2 c = search needs
 
 -- src/calls.rt:5:1
 returns-2 : tie.Need-returns-2
-returns-2 c = size (no (c .before .size-right .ensures) (c .if1 .left)) refl refl
+returns-2 c = FreshSays.size (no (c .before .size-right .ensures) (c .if1 .left)) refl refl
 
 pub fresh-spec : {M : Type 1} → statement M
 fresh-spec =

@@ -1,0 +1,7 @@
+pub mod Records
+pub mod Tally
+pub mod Links
+pub mod Columns
+pub mod Passed
+pub mod Sides
+pub mod Verdict

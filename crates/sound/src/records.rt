@@ -1,0 +1,199 @@
+// The first pass: each record by itself, and the sums over all.
+ghost use mathlib.Core.Logic.{_↔_};
+ghost use Prim.Native.Nat.{_<_};
+ghost use lib.Dec.{T};
+ghost use Rattle.geometry.specs.Plane.{Formed};
+ghost use Rattle.table.specs.Words.{recordsOf};
+ghost use Rattle.table.specs.Sound.{SizeRight};
+ghost use Rattle.table.specs.Forms.{planeIn};
+ghost use Rattle.sound.specs.Records.{Blank, KindRight, Well};
+ghost use Rattle.sound.specs.Tally.{CellsAre, OneIs, Tallied};
+use table::Record;
+use table::numbers::FREE;
+use table::numbers::HIGH;
+use table::numbers::KIND;
+use table::numbers::LOW;
+use table::numbers::SOLID;
+use table::numbers::SPACE;
+use table::numbers::ZERO;
+
+// Ten zeros.
+fn blank(t: &[i32], i: usize) -> bool
+    requires { ⌜ i < recordsOf (now t) ⌝ }
+    ensures { λ r. ⌜ T r ↔ Blank (now (t .entry)) i ⌝ }
+{
+    let Record {
+        left,
+        bottom,
+        right,
+        top,
+        tr,
+        rt,
+        bl,
+        lb,
+        kind,
+        label,
+    } = table::read(t, i);
+    if left != ZERO {
+        return false;
+    }
+    if bottom != ZERO {
+        return false;
+    }
+    if right != ZERO {
+        return false;
+    }
+    if top != ZERO {
+        return false;
+    }
+    if tr != ZERO {
+        return false;
+    }
+    if rt != ZERO {
+        return false;
+    }
+    if bl != ZERO {
+        return false;
+    }
+    if lb != ZERO {
+        return false;
+    }
+    if kind != ZERO {
+        return false;
+    }
+    if label != ZERO {
+        return false;
+    }
+    true
+}
+
+// A rectangle of the plane.
+fn formed(t: &[i32], i: usize) -> bool
+    requires { ⌜ i < recordsOf (now t) ⌝ }
+    ensures { λ r. ⌜ T r ↔ Formed (planeIn (now (t .entry))) i ⌝ }
+{
+    let Record {
+        left,
+        bottom,
+        right,
+        top,
+        ..
+    } = table::read(t, i);
+    if left < LOW {
+        return false;
+    }
+    if right <= left {
+        return false;
+    }
+    if HIGH < right {
+        return false;
+    }
+    if bottom < LOW {
+        return false;
+    }
+    if top <= bottom {
+        return false;
+    }
+    if HIGH < top {
+        return false;
+    }
+    true
+}
+
+// Kind and label go together.
+fn kind_right(t: &[i32], i: usize) -> bool
+    requires { ⌜ i < recordsOf (now t) ⌝ }
+    ensures { λ r. ⌜ T r ↔ KindRight (now (t .entry)) i ⌝ }
+{
+    let Record { kind, label, .. } = table::read(t, i);
+    if kind == SPACE {
+        if label == ZERO {
+            return true;
+        }
+        return false;
+    }
+    if kind == SOLID {
+        if ZERO < label {
+            return true;
+        }
+    }
+    false
+}
+
+fn well(t: &[i32], i: usize) -> bool
+    requires { ⌜ i < recordsOf (now t) ⌝ }
+    ensures { λ r. ⌜ T r ↔ Well (now (t .entry)) i ⌝ }
+{
+    if table::word(t, i, KIND) == FREE {
+        return blank(t, i);
+    }
+    if formed(t, i) {
+        return kind_right(t, i);
+    }
+    false
+}
+
+// The cells that record i takes.
+fn cells(t: &[i32], i: usize) -> u64
+    requires { ⌜ (i < recordsOf (now t)) × Well (now t) i ⌝ }
+    ensures { λ r. ⌜ CellsAre (now (t .entry)) i r ⌝ }
+{
+    let Record {
+        left,
+        bottom,
+        right,
+        top,
+        kind,
+        ..
+    } = table::read(t, i);
+    if kind == FREE {
+        return 0;
+    }
+    (right - left) * (top - bottom)
+}
+
+// 1 where record i is a solid.
+fn one(t: &[i32], i: usize) -> usize
+    requires { ⌜ i < recordsOf (now t) ⌝ }
+    ensures { λ r. ⌜ OneIs (now (t .entry)) i r ⌝ }
+{
+    if table::word(t, i, KIND) == SOLID {
+        return 1;
+    }
+    0
+}
+
+pub(crate) struct Sums {
+    pub(crate) well: bool,
+    pub(crate) area: u64,
+    pub(crate) solids: usize,
+}
+
+// The first pass: each record by itself, and the sums over all.
+pub(crate) fn tally(t: &[i32]) -> Sums
+    requires { ⌜ SizeRight (now t) ⌝ }
+    ensures { λ r. ⌜ Tallied (now (t .entry)) (r .area) (r .solids) (r .well) ⌝ }
+{
+    let n = table::records(t);
+    let mut area = 0;
+    let mut solids = 0;
+    let mut i = 0;
+    while i < n {
+        if well(t, i) {
+            area += cells(t, i);
+            solids += one(t, i);
+            i += 1;
+        } else {
+            return Sums {
+                well: false,
+                area: 0,
+                solids: 0,
+            };
+        }
+    }
+    Sums {
+        well: true,
+        area,
+        solids,
+    }
+}

@@ -1,0 +1,139 @@
+// The second pass: each stitch of a used record names the tile that holds its cell.
+ghost use mathlib.Core.Logic.{_↔_};
+ghost use Prim.Native.Nat.{_<_};
+ghost use lib.Dec.{T};
+ghost use Rattle.geometry.specs.Picture.{InPlane};
+ghost use Rattle.table.specs.Words.{recordsOf};
+ghost use Rattle.table.specs.Sound.{Named, Names};
+ghost use Rattle.sound.specs.Records.{Well, Keeps};
+ghost use Rattle.sound.specs.Tally.{AllWell};
+ghost use Rattle.sound.specs.Links.{Linked, AllStitched};
+use table::Record;
+use table::numbers::FREE;
+use table::numbers::HIGH;
+use table::numbers::LOW;
+use table::numbers::NONE;
+use table::numbers::ZERO;
+
+fn in_plane(x: u64, y: u64) -> bool
+    ensures { λ r. ⌜ T r ↔ InPlane x y ⌝ }
+{
+    if x < LOW {
+        return false;
+    }
+    if HIGH <= x {
+        return false;
+    }
+    if y < LOW {
+        return false;
+    }
+    if HIGH <= y {
+        return false;
+    }
+    true
+}
+
+// Record i is used and holds the cell (x, y).
+pub(crate) fn keeps(t: &[i32], i: usize, x: u64, y: u64) -> bool
+    requires { ⌜ i < recordsOf (now t) ⌝ }
+    ensures { λ r. ⌜ T r ↔ Keeps (now (t .entry)) i x y ⌝ }
+{
+    let Record {
+        left,
+        bottom,
+        right,
+        top,
+        kind,
+        ..
+    } = table::read(t, i);
+    if kind == FREE {
+        return false;
+    }
+    if x < left {
+        return false;
+    }
+    if right <= x {
+        return false;
+    }
+    if y < bottom {
+        return false;
+    }
+    if top <= y {
+        return false;
+    }
+    true
+}
+
+// The stitch word w names a used record that holds the cell (x, y).
+fn named(t: &[i32], w: u64, x: u64, y: u64) -> bool
+    ensures { λ r. ⌜ T r ↔ Named (now (t .entry)) w x y ⌝ }
+{
+    if w < ZERO {
+        return false;
+    }
+    let i = (w - ZERO) as usize;
+    if table::records(t) <= i {
+        return false;
+    }
+    keeps(t, i, x, y)
+}
+
+// A right stitch: it names the tile that holds its cell, and is -1 where the cell lies outside the plane.
+fn names(t: &[i32], w: u64, x: u64, y: u64) -> bool
+    ensures { λ r. ⌜ T r ↔ Names (now (t .entry)) w x y ⌝ }
+{
+    if in_plane(x, y) {
+        return named(t, w, x, y);
+    }
+    if w == NONE {
+        return true;
+    }
+    false
+}
+
+// The four stitches of record i, if it is used.
+fn linked(t: &[i32], i: usize) -> bool
+    requires { ⌜ (i < recordsOf (now t)) × Well (now t) i ⌝ }
+    ensures { λ r. ⌜ T r ↔ Linked (now (t .entry)) i ⌝ }
+{
+    let Record {
+        left,
+        bottom,
+        right,
+        top,
+        tr,
+        rt,
+        bl,
+        lb,
+        kind,
+        ..
+    } = table::read(t, i);
+    if kind == FREE {
+        return true;
+    }
+    if names(t, tr, right, top - 1) {
+        if names(t, rt, right - 1, top) {
+            if names(t, bl, left - 1, bottom) {
+                return names(t, lb, left, bottom - 1);
+            }
+        }
+    }
+    false
+}
+
+// The second pass.
+pub(crate) fn all_linked(t: &[i32]) -> bool
+    requires { ⌜ AllWell (now t) ⌝ }
+    ensures { λ r. ⌜ T r ↔ AllStitched (now (t .entry)) ⌝ }
+{
+    let n = table::records(t);
+    let mut i = 0;
+    while i < n {
+        if linked(t, i) {
+            i += 1;
+        } else {
+            return false;
+        }
+    }
+    true
+}

@@ -1,0 +1,57 @@
+//! The comparison runs: every call against the rectangle-list program and the rules' own words, on seeded random
+//! tables. Ends with a failure at the first disagreement. A first argument scales the amount, as 0.1 or 20.
+mod check;
+mod examples;
+mod fresh;
+mod view;
+
+use std::process::ExitCode;
+
+/// What a run tried, a line for each kind; or the first disagreement.
+type Report = Result<Vec<String>, String>;
+
+/// What a run is about, and the run itself, which takes the scale.
+type Run = (&'static str, fn(f64) -> Report);
+
+const RUNS: [Run; 4] = [("examples", examples::run), ("fresh", fresh::run), ("check", check::run), ("view", view::run)];
+
+/// The word counts that the rules name, and those beside them.
+const NAMED_SIZES: [usize; 14] = [0, 1, 9, 10, 190, 199, 200, 201, 210, 40_150, 40_159, 40_160, 40_161, 40_170];
+
+fn main() -> ExitCode {
+    let scale = match std::env::args().nth(1).map(|argument| argument.parse::<f64>()) {
+        None => 1.0,
+        Some(Ok(scale)) if scale > 0.0 => scale,
+        Some(_) => {
+            eprintln!("usage: compare [SCALE], SCALE a number above 0");
+            return ExitCode::from(2);
+        }
+    };
+    for (call, run) in RUNS {
+        match run(scale) {
+            Ok(lines) => lines.iter().for_each(|line| println!("{call}: {line}")),
+            Err(message) => {
+                println!("{call}: DISAGREEMENT: {message}");
+                return ExitCode::FAILURE;
+            }
+        }
+    }
+    println!("all agree");
+    ExitCode::SUCCESS
+}
+
+/// The rule on sizes, in words instead of records.
+fn size_fits(words: usize) -> bool {
+    words.is_multiple_of(10) && (200..=40_160).contains(&words)
+}
+
+fn scaled(amount: usize, scale: f64) -> u64 {
+    ((amount as f64 * scale) as u64).max(1)
+}
+
+fn agree(condition: bool, message: impl FnOnce() -> String) -> Result<(), String> {
+    if condition {
+        return Ok(());
+    }
+    Err(message())
+}

@@ -17,7 +17,7 @@ use Rattle.geometry.specs.Tiling.{solidOf, Kinded, space, solid, Widest}
 use Rattle.table.specs.Words.{LEFT, BOTTOM, RIGHT, TOP, RT, KIND, num, recordsOf, tileOf}
 use Rattle.table.specs.Sound.{SizeRight, capacity, solidsIn, UsedIn}
 use Rattle.table.specs.Forms.{planeIn, Forms, used-is, is-used, holds-has, has-holds, stitched-good, good-stitched}
-use Rattle.sound.specs.Records.{KindRight, Keeps, blank-zeros, zeros-blank}
+use Rattle.sound.specs.Records.{KindRight, Keeps}
 use Rattle.sound.specs.Tally.{AllWell}
 use Rattle.sound.specs.Columns.{Ready, ready-formed, Lined, Rows, AllFit}
 
@@ -112,7 +112,7 @@ module _ (t : List ℤ) (p : Passed t) where
 
   pub passed-forms : SizeRight t → Forms t
   passed-forms s = record {
-    zeros = λ i h e. blank-zeros t i (p .ready .well i h .blank e);
+    zeros = λ i h. p .ready .well i h .blank;
     widest = widest;
     good = stitched-good t (s .most) widest (p .ready .stitched);
     few = p .few;
@@ -126,7 +126,7 @@ module _ (t : List ℤ) (f : Forms t) where
 
   pub forms-well : AllWell t
   forms-well i h = record {
-    blank = λ e. zeros-blank t i (f .zeros i h e);
+    blank = f .zeros i h;
     formed = λ n. strips .formed i (used-is t i (record { below = h; used = n }));
     kind = λ n. kinded-kind t i (f .widest .kinded i (record { below = h; used = n }));
   }

@@ -14,14 +14,14 @@ use lib.IntN.{ℤ}
 use Rattle.geometry.specs.Cases.{only}
 use Rattle.geometry.specs.Sums.{sumTo}
 use Rattle.geometry.specs.Count.{count}
-use Rattle.geometry.specs.Picture.{FREE, SOLID}
+use Rattle.geometry.specs.Picture.{FREE, SOLID, Has}
 use Rattle.geometry.specs.Plane.{area, Formed}
-use Rattle.table.specs.Words.{LEFT, BOTTOM, RIGHT, TOP, KIND, num, recordsOf}
+use Rattle.table.specs.Words.{LEFT, BOTTOM, RIGHT, TOP, KIND, num, recordsOf, tileOf}
 use Rattle.table.specs.Sound.{solidAt, solidsIn}
 use Rattle.table.specs.Forms.{planeIn}
 use Rattle.table.specs.Reading.{Reads}
 use Rattle.table.specs.declared.Record.{Record}
-use Rattle.sound.specs.Records.{Well}
+use Rattle.sound.specs.Records.{Well, Keeps}
 
 -- the cells of record k, if it is used, and whether it is a solid
 unfoldable pub cells : List ℤ → ℕ → ℕ
@@ -100,6 +100,13 @@ solids-all t = refl
 
 abbrev pub AllWell : List ℤ → Type 0
 AllWell t = (i : ℕ) → i < recordsOf t → Well t i
+
+-- a record that holds a cell is used: a free one is zeros
+pub has-used : (t : List ℤ) (i x y : ℕ) → AllWell t → i < recordsOf t → Has (tileOf t i) x y → num t i KIND ≢ FREE
+has-used t i x y w h k e = let z = w i h .blank e in omega (arith, z LEFT (omega arith), z RIGHT (omega arith))
+
+pub has-keeps : (t : List ℤ) (i x y : ℕ) → AllWell t → i < recordsOf t → Has (tileOf t i) x y → Keeps t i x y
+has-keeps t i x y w h k = record { used = has-used t i x y w h k; has = k }
 
 -- what the first pass finds
 pub record Tallied (t : List ℤ) (a s : ℕ) (w : Bool) : Type 0 where

@@ -4,9 +4,9 @@ ghost use Prim.Native.Nat.{_<_};
 ghost use lib.Dec.{T};
 ghost use Rattle.geometry.specs.Plane.{Formed};
 ghost use Rattle.table.specs.Words.{recordsOf};
-ghost use Rattle.table.specs.Sound.{SizeRight};
+ghost use Rattle.table.specs.Sound.{SizeRight, Zeros};
 ghost use Rattle.table.specs.Forms.{planeIn};
-ghost use Rattle.sound.specs.Records.{Blank, KindRight, Well};
+ghost use Rattle.sound.specs.Records.{KindRight, Well};
 ghost use Rattle.sound.specs.Tally.{CellsAre, OneIs, Tallied};
 use table::Record;
 use table::numbers::FREE;
@@ -15,54 +15,20 @@ use table::numbers::KIND;
 use table::numbers::LOW;
 use table::numbers::SOLID;
 use table::numbers::SPACE;
+use table::numbers::WIDTH;
 use table::numbers::ZERO;
 
 // Ten zeros.
 fn blank(t: &[i32], i: usize) -> bool
     requires { ⌜ i < recordsOf (now t) ⌝ }
-    ensures { λ r. ⌜ T r ↔ Blank (now (t .entry)) i ⌝ }
+    ensures { λ r. ⌜ T r ↔ Zeros (now (t .entry)) i ⌝ }
 {
-    let Record {
-        left,
-        bottom,
-        right,
-        top,
-        tr,
-        rt,
-        bl,
-        lb,
-        kind,
-        label,
-    } = table::read(t, i);
-    if left != ZERO {
-        return false;
-    }
-    if bottom != ZERO {
-        return false;
-    }
-    if right != ZERO {
-        return false;
-    }
-    if top != ZERO {
-        return false;
-    }
-    if tr != ZERO {
-        return false;
-    }
-    if rt != ZERO {
-        return false;
-    }
-    if bl != ZERO {
-        return false;
-    }
-    if lb != ZERO {
-        return false;
-    }
-    if kind != ZERO {
-        return false;
-    }
-    if label != ZERO {
-        return false;
+    let mut k = 0;
+    while k < WIDTH {
+        if table::word(t, i, k) != ZERO {
+            return false;
+        }
+        k += 1;
     }
     true
 }

@@ -52,6 +52,7 @@ fn column(t: &[i32], k: usize, x: u64, of: u64, floor: u64) -> bool
 
 // The first record that holds the plane's upper left cell.
 fn corner(t: &[i32]) -> usize
+    requires { ⌜ Ready (now t) ⌝ }
     ensures { λ r. ⌜ Corner (now (t .entry)) r ⌝ }
 {
     let n = table::records(t);

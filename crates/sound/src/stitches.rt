@@ -5,37 +5,18 @@ ghost use lib.Dec.{T};
 ghost use Rattle.geometry.specs.Picture.{InPlane};
 ghost use Rattle.table.specs.Words.{recordsOf};
 ghost use Rattle.table.specs.Sound.{Named, Names};
-ghost use Rattle.sound.specs.Records.{Well, Keeps};
+ghost use Rattle.sound.specs.Records.{Keeps};
 ghost use Rattle.sound.specs.Tally.{AllWell};
 ghost use Rattle.sound.specs.Links.{Linked, AllStitched};
 use table::Record;
 use table::numbers::FREE;
-use table::numbers::HIGH;
-use table::numbers::LOW;
 use table::numbers::NONE;
 use table::numbers::ZERO;
 
-fn in_plane(x: u64, y: u64) -> bool
-    ensures { λ r. ⌜ T r ↔ InPlane x y ⌝ }
-{
-    if x < LOW {
-        return false;
-    }
-    if HIGH <= x {
-        return false;
-    }
-    if y < LOW {
-        return false;
-    }
-    if HIGH <= y {
-        return false;
-    }
-    true
-}
-
-// Record i is used and holds the cell (x, y).
+// Record i is used and holds the cell (x, y). A free record is ten zeros and holds no cell, so its kind need not be read.
 pub(crate) fn keeps(t: &[i32], i: usize, x: u64, y: u64) -> bool
-    requires { ⌜ i < recordsOf (now t) ⌝ }
+    requires { ⌜ (i < recordsOf (now t)) × AllWell (now t) ⌝ }
+    requires { ⌜ InPlane x y ⌝ }
     ensures { λ r. ⌜ T r ↔ Keeps (now (t .entry)) i x y ⌝ }
 {
     let Record {
@@ -43,29 +24,23 @@ pub(crate) fn keeps(t: &[i32], i: usize, x: u64, y: u64) -> bool
         bottom,
         right,
         top,
-        kind,
         ..
     } = table::read(t, i);
-    if kind == FREE {
+    if ruler::less(x, left) {
         return false;
     }
-    if x < left {
+    if ruler::less(y, bottom) {
         return false;
     }
-    if right <= x {
-        return false;
+    if ruler::less(x, right) {
+        return ruler::less(y, top);
     }
-    if y < bottom {
-        return false;
-    }
-    if top <= y {
-        return false;
-    }
-    true
+    false
 }
 
 // The stitch word w names a used record that holds the cell (x, y).
 fn named(t: &[i32], w: u64, x: u64, y: u64) -> bool
+    requires { ⌜ AllWell (now t) × InPlane x y ⌝ }
     ensures { λ r. ⌜ T r ↔ Named (now (t .entry)) w x y ⌝ }
 {
     if w < ZERO {
@@ -80,9 +55,10 @@ fn named(t: &[i32], w: u64, x: u64, y: u64) -> bool
 
 // A right stitch: it names the tile that holds its cell, and is -1 where the cell lies outside the plane.
 fn names(t: &[i32], w: u64, x: u64, y: u64) -> bool
+    requires { ⌜ AllWell (now t) ⌝ }
     ensures { λ r. ⌜ T r ↔ Names (now (t .entry)) w x y ⌝ }
 {
-    if in_plane(x, y) {
+    if table::in_plane(x, y) {
         return named(t, w, x, y);
     }
     if w == NONE {
@@ -93,7 +69,7 @@ fn names(t: &[i32], w: u64, x: u64, y: u64) -> bool
 
 // The four stitches of record i, if it is used.
 fn linked(t: &[i32], i: usize) -> bool
-    requires { ⌜ (i < recordsOf (now t)) × Well (now t) i ⌝ }
+    requires { ⌜ (i < recordsOf (now t)) × AllWell (now t) ⌝ }
     ensures { λ r. ⌜ T r ↔ Linked (now (t .entry)) i ⌝ }
 {
     let Record {

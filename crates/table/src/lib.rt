@@ -6,6 +6,7 @@ ghost use lib.Dec.{T};
 ghost use lib.IntN.{pos};
 ghost use mathlib.Core.List.{_++_};
 ghost use lib.ListN.{length, drop, replicate};
+ghost use Rattle.geometry.specs.Picture.{InPlane};
 ghost use Rattle.table.specs.Fresh.{wholePlane, freshTable};
 ghost use Rattle.table.specs.Sound.{SizeRight, capacity};
 ghost use Rattle.table.specs.View.{Places};
@@ -16,11 +17,13 @@ pub mod numbers;
 
 use numbers::BL;
 use numbers::BOTTOM;
+use numbers::HIGH;
 use numbers::KIND;
 use numbers::LABEL;
 use numbers::LB;
 use numbers::LEAST;
 use numbers::LEFT;
+use numbers::LOW;
 use numbers::MOST;
 use numbers::RIGHT;
 use numbers::RT;
@@ -28,6 +31,25 @@ use numbers::TOP;
 use numbers::TR;
 use numbers::WIDTH;
 use numbers::ZERO;
+
+// Whether a cell is of the plane.
+pub fn in_plane(x: u64, y: u64) -> bool
+    ensures { λ r. ⌜ T r ↔ InPlane x y ⌝ }
+{
+    if x < LOW {
+        return false;
+    }
+    if HIGH <= x {
+        return false;
+    }
+    if y < LOW {
+        return false;
+    }
+    if HIGH <= y {
+        return false;
+    }
+    true
+}
 
 // A record's ten words as numbers on the ruler.
 pub struct Record {

@@ -21,7 +21,7 @@ loop-holds : tie.Need-loop-holds Inv-loop μ-loop
 loop-holds c = (search needs, below-none _)
 
 linked-requires : tie.Need-linked-requires Inv-loop μ-loop
-linked-requires c κs = (omega arith, c .before .before .before .pre _ (omega arith))
+linked-requires c κs = (omega arith, c .before .before .before .pre)
 
 add-i : tie.Need-add-i Inv-loop μ-loop
 add-i c = search needs

@@ -14,25 +14,25 @@ returns : tie.Need-returns
 returns c = search needs
 
 sub-names : tie.Need-sub-names
-sub-names c = let f = read-formed _ _ _ (c .before .read .ensures) (c .if1 .left) (c .before .before .pre .1) in omega arith
+sub-names c = let f = read-formed _ _ _ (c .before .read .ensures) (c .if1 .left) (c .before .before .pre .1 _ (c .before .before .pre .0)) in omega arith
 
 names-requires : tie.Need-names-requires
 names-requires c κs = search needs
 
 sub-names-2 : tie.Need-sub-names-2
-sub-names-2 c = let f = read-formed _ _ _ (c .before .before .before .read .ensures) (c .before .before .if1 .left) (c .before .before .before .before .pre .1) in omega arith
+sub-names-2 c = let f = read-formed _ _ _ (c .before .before .before .read .ensures) (c .before .before .if1 .left) (c .before .before .before .before .pre .1 _ (c .before .before .before .before .pre .0)) in omega arith
 
 names-requires-2 : tie.Need-names-requires-2
 names-requires-2 c κs = search needs
 
 sub-names-3 : tie.Need-sub-names-3
-sub-names-3 c = let f = read-formed _ _ _ (c .before .before .before .before .before .read .ensures) (c .before .before .before .before .if1 .left) (c .before .before .before .before .before .before .pre .1) in omega arith
+sub-names-3 c = let f = read-formed _ _ _ (c .before .before .before .before .before .read .ensures) (c .before .before .before .before .if1 .left) (c .before .before .before .before .before .before .pre .1 _ (c .before .before .before .before .before .before .pre .0)) in omega arith
 
 names-requires-3 : tie.Need-names-requires-3
 names-requires-3 c κs = search needs
 
 sub-names-4 : tie.Need-sub-names-4
-sub-names-4 c = let f = read-formed _ _ _ (c .before .before .before .before .before .before .before .read .ensures) (c .before .before .before .before .before .before .if1 .left) (c .before .before .before .before .before .before .before .before .pre .1) in omega arith
+sub-names-4 c = let f = read-formed _ _ _ (c .before .before .before .before .before .before .before .read .ensures) (c .before .before .before .before .before .before .if1 .left) (c .before .before .before .before .before .before .before .before .pre .1 _ (c .before .before .before .before .before .before .before .before .pre .0)) in omega arith
 
 names-requires-4 : tie.Need-names-requires-4
 names-requires-4 c κs = search needs

@@ -8,7 +8,7 @@ in-plane-requires : tie.Need-in-plane-requires
 in-plane-requires c κs = search needs
 
 named-requires : tie.Need-named-requires
-named-requires c κs = search needs
+named-requires c κs = (c .before .before .pre, yes (c .before .in-plane .ensures) (c .if1 .taken))
 
 returns : tie.Need-returns
 returns c =

@@ -12,3 +12,11 @@ pub mod WidestDrawn
 pub mod DrawnWidest
 pub mod Turns
 pub mod Walk
+pub mod Find
+pub mod Listed
+pub mod Cut
+pub mod Split
+pub mod Join
+pub mod Sides
+pub mod Tidy
+pub mod Grow

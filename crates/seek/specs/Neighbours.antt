@@ -1,0 +1,47 @@
+-- The neighbours of a tile on a side, as 01 tells them: what a reader must believe about the call of that name. Assumes nothing.
+use mathlib.Core.Path.{_≡_}
+use mathlib.Core.List.{List}
+use Prim.Native.Nat.{ℕ, zero, suc, _≤_, _<_}
+use lib.IntN.{ℤ}
+use lib.ListN.{length, getD}
+use Rattle.geometry.specs.Picture.{Tile}
+use Rattle.geometry.specs.Turns.{Side, top, right, bottom, left}
+use Rattle.table.specs.Words.{tileOf}
+use Rattle.table.specs.Sound.{UsedIn}
+
+-- the sides by 01's numbers: 0 right, 1 left, 2 top, 3 bottom
+unfoldable pub sideOf : ℕ → Side
+sideOf zero = right
+sideOf (suc zero) = left
+sideOf (suc (suc zero)) = top
+sideOf (suc (suc (suc n))) = bottom
+
+-- two edges lie on one line, and the spans along it share at least one cell
+pub record Meet (edge edge′ from to from′ to′ : ℕ) : Type 0 where
+  pub line : edge′ ≡ edge
+  pub one : from < to′
+  pub other : from′ < to
+
+-- w shares a side of at least one cell with v, on v's side s
+abbrev pub Touches : Side → Tile → Tile → Type 0
+Touches right v w = Meet (v .right) (w .left) (v .bottom) (v .top) (w .bottom) (w .top)
+Touches left v w = Meet (v .left) (w .right) (v .bottom) (v .top) (w .bottom) (w .top)
+Touches top v w = Meet (v .top) (w .bottom) (v .left) (v .right) (w .left) (w .right)
+Touches bottom v w = Meet (v .bottom) (w .top) (v .left) (v .right) (w .left) (w .right)
+
+-- v comes before w: right from top to bottom, left from bottom to top, top from right to left, bottom from left to right
+abbrev pub Before : Side → Tile → Tile → Type 0
+Before right v w = w .top ≤ v .bottom
+Before left v w = v .top ≤ w .bottom
+Before top v w = w .right ≤ v .left
+Before bottom v w = v .right ≤ w .left
+
+pub record Neighbour (t : List ℤ) (s : Side) (i k : ℕ) : Type 0 where
+  pub used : UsedIn t k
+  pub touches : Touches s (tileOf t i) (tileOf t k)
+
+-- the list of all neighbours of record i on side s, in order
+pub record Neighbours (t : List ℤ) (s : Side) (i : ℕ) (L : List ℕ) : Type 0 where
+  pub each : (n : ℕ) → n < length L → Neighbour t s i (getD L n 0)
+  pub all : (k : ℕ) → Neighbour t s i k → (n : ℕ) × (n < length L) × (getD L n 0 ≡ k)
+  pub order : (m n : ℕ) → m < n → n < length L → Before s (tileOf t (getD L m 0)) (tileOf t (getD L n 0))

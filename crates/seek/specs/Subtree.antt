@@ -1,0 +1,203 @@
+-- The tree of one tile p: how far the walk along p's right side has come, and what is written. Assumes nothing.
+use mathlib.Core.Path.{_≡_, refl, sym, ap, _∙_, subst, subst₂}
+use mathlib.Core.Logic.{_⊎_, inl, inr}
+use mathlib.Core.Bool.{Bool, true, false, true≢false}
+use mathlib.Core.List.{List, [], _∷_, _++_}
+use Prim.Native.Nat.{ℕ, _+_, _-_, _≤_, _<_, min, max}
+use native.Mathlib.Omega.{arith}
+use lib.IntN.{ℤ}
+use lib.ListN.{length, getD, take, drop}
+use Rattle.geometry.specs.Cases.{lt-cases, only}
+use Rattle.geometry.specs.Turns.{right}
+use Rattle.table.specs.Words.{BOTTOM, RIGHT, TOP, recordsOf, num}
+use Rattle.table.specs.Forms.{Forms}
+use Rattle.seek.specs.Meaning.{Area, Over, Meets, Hangs, tree, none, more}
+use Rattle.seek.specs.Neighbours.{Neighbour, Neighbours}
+use Rattle.seek.specs.Walk.{Place, Begins, Steps, Goes}
+use Rattle.seek.specs.Sides.{neighbours-some}
+use Rattle.seek.specs.Lists.{Passed, lists-none, lists-same}
+use Rattle.seek.specs.Hanging.{formed, same-numbers, hangs-beside, hangs-level}
+use Rattle.seek.specs.Writing.{words, over}
+use Rattle.seek.specs.declared.side.Walk.{Walk}
+use Rattle.seek.specs.Enumerate.{WritesTree}
+use Rattle.seek.specs.Trees.{Written, written-short, written-pass, written-more, written-none}
+
+abbrev pub MetOf : List ℕ → ℕ → ℕ → Type 0
+MetOf L n k = (j : ℕ) × (j < n) × (getD L j 0 ≡ k)
+
+-- the walk has met the first tiles of p's right side, and the trees of those that hang under p are written
+pub record Going (t : List ℤ) (A : Area) (p : ℕ) (start out : List ℤ) (n : ℕ) (w : Walk) : Type 0 where
+  pub tiles : List ℕ
+  pub are : Neighbours t right p tiles
+  pub met : ℕ
+  pub place : w .more ≡ true → Place t right p tiles met w
+  pub done : w .more ≡ false → (k : ℕ) → Hangs t A p k → MetOf tiles met k
+  pub written : Written t A (Hangs t A p) (MetOf tiles met) (p ∷ []) start out n
+
+-- what comes after a walk's tile: the next one, or the end where all that follow lie under the area
+pub data Follows (t : List ℤ) (bottom : ℕ) (w w′ : Walk) : Type 0 where
+  stops : num t (w .at) BOTTOM ≤ bottom → w′ .more ≡ false → Follows t bottom w w′
+  steps : Steps t w w′ → Follows t bottom w w′
+
+pub goes-below : (t : List ℤ) (w : Walk) → Goes t w → w .at < recordsOf t
+goes-below t w g = let h = g .place .here (g .more) in omega (arith, h .is, g .are .each (g .count) (h .below) .used .below)
+
+-- a number that falls as a walk along a right side goes on
+abbrev pub left-of-walk : List ℤ → Walk → ℕ
+left-of-walk t w = only (w .more) (1 + num t (w .at) BOTTOM)
+
+one-more : (t : List ℤ) (w : Walk) → w .more ≡ true → left-of-walk t w ≡ 1 + num t (w .at) BOTTOM
+one-more t w e = ap (λ b. only b (1 + num t (w .at) BOTTOM)) e
+
+no-more : (t : List ℤ) (w : Walk) → w .more ≡ false → left-of-walk t w ≡ 0
+no-more t w e = ap (λ b. only b (1 + num t (w .at) BOTTOM)) e
+
+-- tile k, which begins at p's right side and inside the area's columns, hangs under p: what is left to test
+pub record HangsBy (t : List ℤ) (bottom top p k : ℕ) : Type 0 where
+  pub under : num t k BOTTOM < top
+  pub over : bottom < num t k TOP
+  pub row : num t p BOTTOM ≤ max (num t k BOTTOM) bottom
+
+module _ (t : List ℤ) (f : Forms t) (A : Area) (p : ℕ) (m : Meets t A p) where
+  hangs-neighbour : (k : ℕ) → Hangs t A p k → Neighbour t right p k
+  hangs-neighbour k h =
+      let b = hangs-beside t f A p k h in
+      record { used = h .meets .used; touches = record { line = sym (b .ends); one = b .lower; other = b .higher } }
+
+  pub hangs-by : (k : ℕ) → Hangs t A p k → HangsBy t (A .bottom) (A .top) p k
+  hangs-by k h = record { under = h .meets .bottom; over = h .meets .top; row = h .has .bottom }
+
+  pub by-hangs : (k : ℕ) → num t p RIGHT < A .right → Neighbour t right p k → HangsBy t (A .bottom) (A .top) p k → Hangs t A p k
+  by-hangs k r n h =
+      let w = formed t f k (n .used) in
+      let z = formed t f p (m .used) in
+      let s = n .touches in
+      record {
+        meets = record { used = n .used; left = omega (arith, s); right = omega (arith, s, m .right); bottom = h .under; top = h .over };
+        further = omega (arith, s, m .right);
+        used = m .used;
+        has = record { left = omega (arith, s); right = omega (arith, s); bottom = h .row; top = omega (arith, s, m .top) };
+      }
+
+  -- nothing hangs under a tile that ends at the area's right or past it
+  pub writes-alone : (old new : List ℤ) → A .right ≤ num t p RIGHT → new ≡ over (words (p ∷ [])) old → WritesTree t A p old new 1
+  writes-alone old new h e = record {
+    list = p ∷ [];
+    is = tree [] (lists-none (Hangs t A p) (Over t) (λ k g. omega (arith, hangs-beside t f A p k g, g .meets .left))) none;
+    count = refl;
+    content = e;
+  }
+
+  pub going-starts : (start : List ℤ) (w : Walk) → Begins t right p w → Going t A p start start 1 w
+  unfolding Begins
+  going-starts start w b =
+      let (L, l) = neighbours-some t f right p (m .used) in
+      record {
+        tiles = L;
+        are = l;
+        met = 0;
+        place = λ _. b L l;
+        done = λ e k h. let (j, o, i) = l .all k (hangs-neighbour k h) in (j, omega (arith, (b L l) .done e), i);
+        written = written-none t A (Hangs t A p) (MetOf L 0) (p ∷ []) start (λ k h q. omega (arith, q .1));
+      }
+
+  pub going-ends : (start out old : List ℤ) (n : ℕ) (w : Walk) → Going t A p start out n w → w .more ≡ false → start ≡ over (words (p ∷ [])) old
+      → WritesTree t A p old out n
+  going-ends start out old n w g e d =
+      let r = g .written in
+      record {
+        list = p ∷ r .list;
+        is = tree (r .tops)
+            (lists-same (Passed (Hangs t A p) (MetOf (g .tiles) (g .met))) (Hangs t A p) (Over t) (r .tops) (λ k q. q .is)
+            (λ k q. record { is = q; met = g .done e k q }) (r .are))
+            (r .trees);
+        count = r .count;
+        content = r .content old d;
+      }
+
+  -- the walk stands at a tile
+  module _ (start out : List ℤ) (n : ℕ) (w : Walk) (g : Going t A p start out n w) (e : w .more ≡ true) where
+    pub going-goes : Goes t w
+    going-goes = record { side = right; of = p; list = g .tiles; count = g .met; used = m .used; are = g .are; place = g .place e; more = e }
+
+    here : getD (g .tiles) (g .met) 0 ≡ w .at
+    here = sym (g .place e .here e .is)
+
+    pub going-at : Neighbour t right p (w .at)
+    going-at = subst (Neighbour t right p) here (g .are .each (g .met) (g .place e .here e .below))
+
+    pub going-short : n ≤ 1 + recordsOf t
+    going-short = written-short t f A (Hangs t A p) (hangs-level t f A p) (MetOf (g .tiles) (g .met)) (p ∷ []) start out n (g .written)
+
+    grows : (j : ℕ) → MetOf (g .tiles) (g .met) j → MetOf (g .tiles) (g .met + 1) j
+    grows j (i, h, d) = (i, omega arith, d)
+
+    no-other : (j : ℕ) → Hangs t A p j → MetOf (g .tiles) (g .met + 1) j → MetOf (g .tiles) (g .met) j ⊎ (j ≡ w .at)
+    no-other j q (i, h, d) =
+        lt-cases i (g .met) (λ o. inl (i, o, d))
+        (λ o. let q : i ≡ g .met = omega arith in inr (sym d ∙ ap (λ i. getD (g .tiles) i 0) q ∙ here))
+
+    after : (j : ℕ) → Hangs t A p j → MetOf (g .tiles) (g .met) j → Over t j (w .at)
+    after j q (i, h, d) =
+        let o = g .are .order i (g .met) h (g .place e .here e .below) in
+        omega (arith, o, same-numbers t _ _ d, same-numbers t _ _ here)
+
+    module _ (w′ : Walk) (s : Follows t (A .bottom) w w′) where
+      next : w′ .more ≡ true → Place t right p (g .tiles) (g .met + 1) w′
+      unfolding Steps
+      next d = go s
+        where
+          go : Follows t (A .bottom) w w′ → Place t right p (g .tiles) (g .met + 1) w′
+          go (stops l c) = absurd (true≢false (sym d ∙ c))
+          go (steps s) = s right p (g .tiles) (g .met) (m .used) (g .are) (g .place e)
+
+      -- of the tiles that hang under p none is left
+      none-left : w′ .more ≡ false → (k : ℕ) → Hangs t A p k → MetOf (g .tiles) (g .met + 1) k
+      unfolding Steps
+      none-left d k h = go s
+        where
+          go : Follows t (A .bottom) w w′ → MetOf (g .tiles) (g .met + 1) k
+          go (stops l c) =
+              let (j, o, i) = g .are .all k (hangs-neighbour k h) in
+              lt-cases j (g .met + 1) (λ q. (j, q, i))
+              (λ q. absurd (omega (arith, g .are .order (g .met) j (omega arith) o, h .meets .top, same-numbers t _ _ i, same-numbers t _ _ here)))
+          go (steps s) =
+              let (j, o, i) = g .are .all k (hangs-neighbour k h) in
+              (j, omega (arith, (s right p (g .tiles) (g .met) (m .used) (g .are) (g .place e)) .done d), i)
+
+      -- the tile is passed by, or its tree is written to the rest of the list
+      pub going-pass : (out′ : List ℤ) (n′ : ℕ) → (Hangs t A p (w .at) → ⊥) → out′ ≡ out → n′ ≡ n → Going t A p start out′ n′ w′
+      going-pass out′ n′ not eo en = subst₂ (λ out n. Going t A p start out n w′) (sym eo) (sym en) (record {
+        tiles = g .tiles;
+        are = g .are;
+        met = g .met + 1;
+        place = next;
+        done = none-left;
+        written = written-pass t f A (Hangs t A p) (hangs-level t f A p) (MetOf (g .tiles) (g .met)) (p ∷ []) start out n (g .written)
+            (MetOf (g .tiles) (g .met + 1)) (w .at) grows no-other not;
+      })
+
+      pub going-more : (out′ : List ℤ) (n′ at c : ℕ) (ys : List ℤ) → Hangs t A p (w .at) → at ≡ min n (length out)
+          → WritesTree t A (w .at) (take (length out - at) (drop at out)) ys c
+          → out′ ≡ take at out ++ (ys ++ drop (length out - at) (drop at out)) → n′ ≡ n + c → Going t A p start out′ n′ w′
+      going-more out′ n′ at c ys h ea v eo en = subst₂ (λ out n. Going t A p start out n w′) (sym eo) (sym en) (record {
+        tiles = g .tiles;
+        are = g .are;
+        met = g .met + 1;
+        place = next;
+        done = none-left;
+        written = written-more t f A (Hangs t A p) (hangs-level t f A p) (MetOf (g .tiles) (g .met)) (p ∷ []) start out n (g .written)
+            (MetOf (g .tiles) (g .met + 1)) (w .at) grows no-other h (g .met, omega arith, here) after at c ys ea v;
+      })
+
+      -- the walk comes to its end
+      pub going-falls : left-of-walk t w′ < left-of-walk t w
+      going-falls = falls (w′ .more) refl
+        where
+          falls : (b : Bool) → w′ .more ≡ b → left-of-walk t w′ < left-of-walk t w
+          falls true d =
+              let n = next d .here d in
+              let o = g .are .order (g .met) (g .met + 1) (omega arith) (n .below) in
+              let u = formed t f _ (g .are .each (g .met + 1) (n .below) .used) in
+              omega (arith, one-more t w e, one-more t w′ d, o, u, same-numbers t _ _ here, same-numbers t _ _ (sym (n .is)))
+          falls false d = omega (arith, one-more t w e, no-more t w′ d)

@@ -1,0 +1,21 @@
+// Looking things up on a table that is known to be sound: the tile at a cell, a tile's neighbours, the first solid and the directed order of an area.
+mod area;
+mod cell;
+mod directed;
+mod first;
+mod neighbours;
+mod side;
+mod stitch;
+
+pub use area::Seen;
+pub use area::search;
+pub use cell::find;
+pub use directed::Area;
+pub use directed::count_area;
+pub use directed::list_area;
+pub use first::first_used;
+pub use first::start;
+pub use neighbours::count_side;
+pub use neighbours::list_side;
+pub use side::Walk;
+pub use side::along;

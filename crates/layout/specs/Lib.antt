@@ -1,0 +1,12 @@
+pub mod Patch
+pub mod Bytes
+pub mod BytesLaws
+pub mod Order
+pub mod Sorting
+pub mod Keys
+pub mod Saving
+pub mod OneOrder
+pub mod Text
+pub mod TextLaws
+pub mod RoundTrip
+pub mod Examples

@@ -1,0 +1,44 @@
+-- What save wrote, read back, is what was saved. Assumes nothing.
+use mathlib.Core.Path.{_≡_, refl, sym, ap, _∙_, subst}
+use mathlib.Core.List.{List, [], _∷_, map}
+use Prim.Native.Nat.{ℕ, zero, suc, _*_, _<_, _^_}
+use native.Mathlib.Nat.{not-suc-le-zero, le-of-suc-le-suc}
+use native.Mathlib.Omega.{arith}
+use lib.IntN.{ℤ}
+use lib.ListN.{length, getD, take, drop, length-map}
+use lib.Seq.{take-at}
+use Rattle.table.specs.Words.{LABEL, num}
+use Rattle.table.specs.Forms.{Forms}
+use Rattle.seek.specs.Meaning.{SolidIn, Lists}
+use Rattle.layout.specs.declared.bytes.Saved.{Saved}
+use Rattle.layout.specs.Bytes.{fileBytes, recordsIn, SavedFits, AllFit}
+use Rattle.layout.specs.BytesLaws.{file-length, recordsIn-file}
+use Rattle.layout.specs.Order.{Comes, savedOf, Saves}
+use Rattle.layout.specs.Keys.{solid-formed}
+
+-- every label is a word's
+abbrev pub LabelsFit : List ℤ → Type 0
+LabelsFit t = (i : ℕ) → SolidIn t i → num t i LABEL < 2 ^ 32
+
+module _ (t : List ℤ) (f : Forms t) (a : LabelsFit t) where
+  saved-fits : (i : ℕ) → SolidIn t i → SavedFits (savedOf t i)
+  unfolding savedOf
+  saved-fits i s = let g = solid-formed t f i s in let l = a i s in omega arith
+
+  pub solids-fit : (ks : List ℕ) → Lists (SolidIn t) (Comes t) ks → AllFit (map (savedOf t) ks)
+  solids-fit ks l n d h =
+      let k : n < length ks = subst (λ m. n < m) (length-map ks (savedOf t)) h in
+      subst SavedFits (sym (at n d ks k)) (saved-fits (getD ks n 0) (l .each n k))
+    where
+      -- the default does not matter below the length
+      at : (n : ℕ) (d : Saved) (ks : List ℕ) → n < length ks → getD (map (savedOf t) ks) n d ≡ savedOf t (getD ks n 0)
+      at n d [] h = absurd (not-suc-le-zero h)
+      at zero d (k ∷ ks) h = refl
+      at (suc n) d (k ∷ ks) h = at n d ks (le-of-suc-le-suc h)
+
+  pub saved-back : (out out′ : List ℕ) (r : ℕ) (s : Saves t out out′ r) → recordsIn (take r out′) ≡ map (savedOf t) (s .solids)
+  saved-back out out′ r s =
+      let ss : List Saved = map (savedOf t) (s .solids) in
+      let l : length (fileBytes ss) ≡ r = file-length ss ∙ ap (λ n. 20 * n) (length-map (s .solids) (savedOf t)) ∙ sym (s .number) in
+      ap (λ o. recordsIn (take r o)) (s .writes) ∙ ap recordsIn (take-at (fileBytes ss) (drop r out) r l)
+      ∙ recordsIn-file ss (solids-fit (s .solids) (s .lists))

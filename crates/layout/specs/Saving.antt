@@ -1,0 +1,159 @@
+-- Save step by step: the keys collected, and the records written in their order. Assumes nothing.
+use mathlib.Core.Path.{_≡_, refl, sym, ap, ap₂, _∙_, subst}
+use mathlib.Core.List.{List, [], _∷_, _++_, map, append-nil, append-assoc}
+use Prim.Native.Nat.{ℕ, suc, _+_, _-_, _*_, _≤_, _<_}
+use native.Mathlib.Omega.{arith}
+use lib.IntN.{ℤ}
+use lib.ListN.{length, getD, take, drop, set, length-append, length-set, length-map}
+use lib.Seq.{take-suc, take-suc-set, length-take-le, take-length, take-at, length-front}
+use Rattle.geometry.specs.Picture.{SOLID}
+use Rattle.table.specs.Words.{KIND, recordsOf, num}
+use Rattle.table.specs.Sound.{SizeRight, solidsIn}
+use Rattle.table.specs.Forms.{Forms}
+use Rattle.layout.specs.declared.bytes.Saved.{Saved}
+use Rattle.layout.specs.Bytes.{recordBytes, fileBytes, SavedFits}
+use Rattle.layout.specs.BytesLaws.{file-length, record-length}
+use Rattle.layout.specs.Patch.{patch, patch-none, patch-then, patch-start}
+use Rattle.layout.specs.Order.{savedOf, Saves}
+use Rattle.layout.specs.Keys.{key, keysTo, recordOf, keys-solid, keys-other, keys-length, keys-room, record-at, sorted-lists}
+use Rattle.layout.specs.Sorting.{Sorts}
+
+-- ---- collecting
+
+-- what collecting the keys of a table leaves
+pub record Collects (t : List ℤ) (keys : List ℕ) (r : ℕ) : Type 0 where
+  pub number : r ≡ solidsIn t
+  pub are : take r keys ≡ keysTo t (recordsOf t)
+
+-- the loop: records below i are done, and n keys are collected
+pub record Collecting (t : List ℤ) (keys₀ keys : List ℕ) (i n : ℕ) : Type 0 where
+  pub within : i ≤ recordsOf t
+  pub long : length keys ≡ length keys₀
+  pub number : n ≡ length (keysTo t i)
+  pub are : take n keys ≡ keysTo t i
+
+pub collecting-none : (t : List ℤ) (keys : List ℕ) → Collecting t keys keys 0 0
+unfolding keysTo
+collecting-none t keys = record { within = omega arith; long = refl; number = refl; are = refl }
+
+pub collecting-solid : (t : List ℤ) (keys₀ keys : List ℕ) (i n : ℕ) → Collecting t keys₀ keys i n → i < recordsOf t → solidsIn t ≤ length keys₀
+    → num t i KIND ≡ SOLID → Collecting t keys₀ (set keys n (key t i)) (i + 1) (n + 1)
+collecting-solid t keys₀ keys i n c h l e =
+    let more = keys-solid t i e in
+    let room = keys-room t i h e in
+    let q : n + 1 ≡ suc n = omega arith in
+    let b : n < length keys = omega arith in
+    record {
+      within = omega arith;
+      long = length-set keys n (key t i) ∙ c .long;
+      number = omega (arith, ap length more, length-append (keysTo t i) (key t i ∷ []));
+      are = ap (λ k. take k (set keys n (key t i))) q ∙ take-suc-set keys n (key t i) b ∙ ap (λ l. l ++ (key t i ∷ [])) (c .are) ∙ sym more;
+    }
+
+pub collecting-other : (t : List ℤ) (keys₀ keys : List ℕ) (i n : ℕ) → Collecting t keys₀ keys i n → i < recordsOf t
+    → (num t i KIND ≡ SOLID → ⊥) → Collecting t keys₀ keys (i + 1) n
+collecting-other t keys₀ keys i n c h e =
+    let more = keys-other t i e in
+    record { within = omega arith; long = c .long; number = c .number ∙ ap length (sym more); are = c .are ∙ sym more }
+
+pub collected : (t : List ℤ) (keys₀ keys : List ℕ) (i n : ℕ) → Collecting t keys₀ keys i n → recordsOf t ≤ i → Collects t keys n
+collected t keys₀ keys i n c h =
+    let e : i ≡ recordsOf t = omega arith in
+    record { number = c .number ∙ ap (λ k. length (keysTo t k)) e ∙ keys-length t (recordsOf t); are = c .are ∙ ap (keysTo t) e }
+
+-- ---- writing
+
+-- what is saved, by keys
+abbrev pub savedBy : List ℤ → List ℕ → List Saved
+savedBy t ks = map (savedOf t) (map recordOf ks)
+
+-- what reading a record for a file gives
+pub record SavedFrom (t : List ℤ) (i : ℕ) (s : Saved) : Type 0 where
+  pub is : s ≡ savedOf t i
+  pub fits : SavedFits s
+
+-- the loop: k records are written
+pub record Writing (t : List ℤ) (ks out₀ out : List ℕ) (k : ℕ) : Type 0 where
+  pub within : k ≤ length ks
+  pub long : length out ≡ length out₀
+  pub is : out ≡ patch out₀ 0 (fileBytes (savedBy t (take k ks)))
+
+pub writing-none : (t : List ℤ) (ks out : List ℕ) → Writing t ks out out 0
+unfolding fileBytes
+writing-none t ks out = record { within = omega arith; long = refl; is = sym (patch-none out 0) }
+
+file-more : (ss : List Saved) (s : Saved) → fileBytes (ss ++ (s ∷ [])) ≡ fileBytes ss ++ recordBytes s
+unfolding fileBytes
+file-more [] s = append-nil (recordBytes s)
+file-more (x ∷ ss) s = ap (λ l. recordBytes x ++ l) (file-more ss s) ∙ sym (append-assoc (recordBytes x) (fileBytes ss) (recordBytes s))
+
+saved-more : (t : List ℤ) (ks : List ℕ) (k : ℕ) → savedBy t (ks ++ (k ∷ [])) ≡ savedBy t ks ++ (savedOf t (recordOf k) ∷ [])
+saved-more t [] k = refl
+saved-more t (x ∷ ks) k = ap (λ l. savedOf t (recordOf x) ∷ l) (saved-more t ks k)
+
+pub saved-length : (t : List ℤ) (ks : List ℕ) → length (fileBytes (savedBy t ks)) ≡ 20 * length ks
+saved-length t ks = file-length (savedBy t ks) ∙ ap (λ n. 20 * n) (length-map (map recordOf ks) (savedOf t) ∙ length-map ks recordOf)
+
+pub writing-more : (t : List ℤ) (ks out₀ out : List ℕ) (k : ℕ) (s : Saved) (out′ : List ℕ) → Writing t ks out₀ out k → k < length ks
+    → 20 * length ks ≤ length out₀ → s ≡ savedOf t (recordOf (getD ks k 0)) → out′ ≡ patch out (20 * k) (recordBytes s) → length out′ ≡ length out
+    → Writing t ks out₀ out′ (k + 1)
+writing-more t ks out₀ out k s out′ w h l e p m =
+    let q : k + 1 ≡ suc k = omega arith in
+    let done : List ℕ = fileBytes (savedBy t (take k ks)) in
+    let lk : length (take k ks) ≡ k = length-take-le k ks (omega arith) in
+    let ld : length done ≡ 20 * k = saved-length t (take k ks) ∙ ap (λ n. 20 * n) lk in
+    let x : List ℕ = recordBytes (savedOf t (recordOf (getD ks k 0))) in
+    let next : fileBytes (savedBy t (take (k + 1) ks)) ≡ done ++ x =
+    ap (λ n. fileBytes (savedBy t (take n ks))) q ∙ ap (λ r. fileBytes (savedBy t r)) (take-suc ks k 0 h)
+    ∙ ap fileBytes (saved-more t (take k ks) (getD ks k 0)) ∙ file-more (savedBy t (take k ks)) (savedOf t (recordOf (getD ks k 0))) in
+    let z : length (done ++ x) ≡ 20 * (k + 1) = length-append done x ∙ omega (arith, record-length (savedOf t (recordOf (getD ks k 0)))) in
+    record {
+      within = omega arith;
+      long = m ∙ w .long;
+      is = p ∙ ap₂ (λ o r. patch o (20 * k) (recordBytes r)) (w .is) e ∙ patch-then out₀ 0 done x (20 * k) (omega arith) (omega arith) ∙ ap (patch out₀ 0) (sym next);
+    }
+
+pub written : (t : List ℤ) (ks out₀ out : List ℕ) (k : ℕ) → Writing t ks out₀ out k → length ks ≤ k
+    → out ≡ fileBytes (savedBy t ks) ++ drop (20 * length ks) out₀
+written t ks out₀ out k w h =
+    let e : k ≡ length ks = omega arith in
+    w .is ∙ ap (λ n. patch out₀ 0 (fileBytes (savedBy t (take n ks)))) e ∙ ap (λ l. patch out₀ 0 (fileBytes (savedBy t l))) (take-length ks)
+    ∙ patch-start out₀ (fileBytes (savedBy t ks)) ∙ ap (λ n. fileBytes (savedBy t ks) ++ drop n out₀) (saved-length t ks)
+
+-- ---- save: the n keys among those collected are back as ys, sorted
+
+module _ (t : List ℤ) (f : Forms t) (z : SizeRight t) (keys : List ℕ) (n : ℕ) (c : Collects t keys n) (fit : n ≤ length keys) (ys : List ℕ)
+    (long : length ys ≡ length (take n keys)) (s : Sorts (take n keys) ys) where
+  back-long : length ys ≡ n
+  back-long = long ∙ length-take-le n keys fit
+
+  back : take n (ys ++ drop n keys) ≡ ys
+  back = take-at ys (drop n keys) n back-long
+
+  pub back-count : n ≡ length (take n (ys ++ drop n keys))
+  back-count = sym back-long ∙ ap length (sym back)
+
+  pub back-whole : length (ys ++ drop n keys) ≡ length keys
+  back-whole = length-front keys ys n long
+
+  are-sorted : Sorts (keysTo t (recordsOf t)) ys
+  are-sorted = subst (λ l. Sorts l ys) (c .are) s
+
+  -- the part that is handed on
+  pub back-fits : 20 * length (take n (ys ++ drop n keys)) ≡ 20 * solidsIn t
+  back-fits = ap (λ l. 20 * length l) back ∙ ap (λ m. 20 * m) (back-long ∙ c .number)
+
+  pub back-below : (k : ℕ) → k < length (take n (ys ++ drop n keys)) → recordOf (getD (take n (ys ++ drop n keys)) k 0) < recordsOf t
+  back-below k h =
+      subst (λ l. recordOf (getD l k 0) < recordsOf t) (sym back) (record-at t f z ys are-sorted k (subst (λ l. k < length l) back h) .below)
+
+  pub saves : (out out′ : List ℕ) (r : ℕ) → r ≡ 20 * length (take n (ys ++ drop n keys))
+      → out′ ≡ fileBytes (savedBy t (take n (ys ++ drop n keys))) ++ drop (20 * length (take n (ys ++ drop n keys))) out → Saves t out out′ r
+  saves out out′ r e w =
+      let q : r ≡ 20 * length ys = e ∙ ap (λ l. 20 * length l) back in
+      record {
+        solids = map recordOf ys;
+        lists = sorted-lists t f z ys are-sorted;
+        number = q ∙ ap (λ m. 20 * m) (sym (length-map ys recordOf));
+        writes = w ∙ ap₂ (λ l m. fileBytes (savedBy t l) ++ drop m out) back (sym e);
+      }

@@ -1,0 +1,105 @@
+// Saving: the solids' keys, sorted, and the records that they name written in that order.
+use crate::bytes::Saved;
+use crate::bytes::put_saved;
+use crate::sort::sort;
+use table::numbers::BOTTOM;
+use table::numbers::HIGH;
+use table::numbers::KIND;
+use table::numbers::LABEL;
+use table::numbers::LEFT;
+use table::numbers::LOW;
+use table::numbers::RIGHT;
+use table::numbers::SOLID;
+use table::numbers::TOP;
+ghost use mathlib.Core.Path.{_≡_};
+ghost use mathlib.Core.List.{_++_};
+ghost use Prim.Native.Nat.{ℕ, _*_, _≤_, _<_};
+ghost use lib.ListN.{length, getD, drop};
+ghost use Rattle.table.specs.Words.{recordsOf};
+ghost use Rattle.table.specs.Sound.{SizeRight, solidsIn};
+ghost use Rattle.table.specs.Forms.{Forms};
+ghost use Rattle.seek.specs.Meaning.{SolidIn};
+ghost use Rattle.layout.specs.Bytes.{fileBytes};
+ghost use Rattle.layout.specs.Order.{Saves};
+ghost use Rattle.layout.specs.Keys.{key, recordOf};
+ghost use Rattle.layout.specs.Saving.{Collects, SavedFrom, savedBy};
+
+// The width of the plane, and a number above all record numbers.
+const WIDE: u64 = 33554432;
+
+const RECORDS: u64 = 4096;
+
+// A solid's key: keys rise in the order of a saved layout.
+fn key(t: &[i32], i: usize) -> u64
+    requires { ⌜ Forms (now t) ⌝ }
+    requires { ⌜ SizeRight (now t) ⌝ }
+    requires { ⌜ SolidIn (now t) i ⌝ }
+    ensures { λ r. ⌜ r ≡ key (now (t .entry)) i ⌝ }
+{
+    let down = HIGH - table::word(t, i, TOP);
+    let right = table::word(t, i, LEFT) - LOW;
+    (down * WIDE + right) * RECORDS + i as u64
+}
+
+// The keys of all solids, in the order of their records, and how many there are.
+fn collect(t: &[i32], keys: &mut [u64]) -> usize
+    requires { ⌜ Forms (now t) ⌝ }
+    requires { ⌜ SizeRight (now t) ⌝ }
+    requires { ⌜ solidsIn (now t) ≤ length (now keys) ⌝ }
+    ensures { λ r. ⌜ Collects (now (t .entry)) (now (keys .exit)) r ⌝ }
+{
+    let records = table::records(t);
+    let mut n: usize = 0;
+    let mut i: usize = 0;
+    while i < records {
+        if table::word(t, i, KIND) == SOLID {
+            keys[n] = key(t, i);
+            n += 1;
+        }
+        i += 1;
+    }
+    n
+}
+
+fn saved_of(t: &[i32], i: usize) -> Saved
+    requires { ⌜ i < recordsOf (now t) ⌝ }
+    ensures { λ r. ⌜ SavedFrom (now (t .entry)) i r ⌝ }
+{
+    Saved {
+        left: table::word(t, i, LEFT),
+        bottom: table::word(t, i, BOTTOM),
+        right: table::word(t, i, RIGHT),
+        top: table::word(t, i, TOP),
+        label: table::word(t, i, LABEL),
+    }
+}
+
+// The records that the keys name, one after another.
+fn write_all(t: &[i32], keys: &[u64], out: &mut [u8]) -> usize
+    requires { ⌜ 20 * length (now keys) ≤ length (now out) ⌝ }
+    requires { ⌜ ((n : ℕ) → n < length (now keys) → recordOf (getD (now keys) n 0) < recordsOf (now t)) ⌝ }
+    ensures { λ r. ⌜ r ≡ 20 * length (now (keys .entry)) ⌝ }
+    ensures { λ _. ⌜ now (out .exit) ≡ fileBytes (savedBy (now (t .entry)) (now (keys .entry))) ++ drop (20 * length (now (keys .entry))) (now (out .entry)) ⌝ }
+{
+    let mut k: usize = 0;
+    while k < keys.len() {
+        let i = (keys[k] % RECORDS) as usize;
+        put_saved(out, k, saved_of(t, i));
+        k += 1;
+    }
+    20 * k
+}
+
+// The solids of a table as a saved layout, at the start of the lent bytes, and how many bytes that takes.
+pub fn save(t: &[i32], out: &mut [u8]) -> usize
+    requires { ⌜ Forms (now t) ⌝ }
+    requires { ⌜ SizeRight (now t) ⌝ }
+    requires { ⌜ 20 * solidsIn (now t) ≤ length (now out) ⌝ }
+    ensures { λ r. ⌜ Saves (now (t .entry)) (now (out .entry)) (now (out .exit)) r ⌝ }
+{
+    let mut keys = [0u64; 1000];
+    let mut spare = [0u64; 1000];
+    let n = collect(t, &mut keys);
+    sort(&mut keys[..n], &mut spare);
+    write_all(t, &keys[..n], out)
+}

@@ -1,6 +1,6 @@
 -- 01's table of answers: each number by its name, and what an answer carries. Assumes nothing.
 use Prim.Native.Nat.{ℕ}
-use lib.IntN.{pos}
+use lib.IntN.{pos, negsuc}
 use Rattle.ushanderi.specs.declared.answer.Answer.{Answer}
 
 abbrev pub DONE : ℕ
@@ -12,6 +12,36 @@ SIZE = 1
 abbrev pub UNSOUND : ℕ
 UNSOUND = 2
 
+abbrev pub POINT : ℕ
+POINT = 3
+
+abbrev pub RECT : ℕ
+RECT = 4
+
+abbrev pub LABEL : ℕ
+LABEL = 5
+
+abbrev pub OCCUPIED : ℕ
+OCCUPIED = 6
+
+abbrev pub FULL : ℕ
+FULL = 7
+
+abbrev pub SPACE : ℕ
+SPACE = 8
+
+abbrev pub SIDE : ℕ
+SIDE = 9
+
+abbrev pub SHORT : ℕ
+SHORT = 10
+
+abbrev pub FILE : ℕ
+FILE = 11
+
+abbrev pub ROOM : ℕ
+ROOM = 12
+
 abbrev pub answered : ℕ → ℕ → Answer
 answered number value = record { number = pos number; value = pos value }
 
@@ -21,3 +51,7 @@ accepted value = answered DONE value
 -- the value of a refusal is 0 unless said
 abbrev pub refused : ℕ → Answer
 refused number = answered number 0
+
+-- area search's value where the rectangle is free: -1
+abbrev pub nothing : Answer
+nothing = record { number = pos DONE; value = negsuc 0 }

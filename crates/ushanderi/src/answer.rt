@@ -10,3 +10,11 @@ pub const DONE: i32 = 0;
 pub const SIZE: i32 = 1;
 
 pub const UNSOUND: i32 = 2;
+
+pub const POINT: i32 = 3;
+
+pub const RECT: i32 = 4;
+
+pub const SIDE: i32 = 9;
+
+pub const SHORT: i32 = 10;

@@ -2,21 +2,21 @@
 ghost use Rattle.table.specs.View.{Places};
 ghost use Rattle.ushanderi.specs.Promises.{FreshSays, CheckSays};
 use crate::answer::Answer;
-use crate::calls;
+use crate::plane;
 use table::Part;
 
 #[no_mangle]
 pub extern "C" fn ush_fresh(t: &mut [i32]) -> Answer
     ensures { λ r. ⌜ FreshSays (now (t .entry)) (now (t .exit)) r ⌝ }
 {
-    calls::fresh(t)
+    plane::fresh(t)
 }
 
 #[no_mangle]
 pub extern "C" fn ush_check(t: &[i32]) -> Answer
     ensures { λ r. ⌜ CheckSays (now (t .entry)) r ⌝ }
 {
-    calls::check(t)
+    plane::check(t)
 }
 
 // A slice cannot be handed to C, so this gives the place of the part that `view` returns.

@@ -6,10 +6,10 @@ use Rattle.ushanderi.specs.Answers.{accepted}
 use Rattle.ushanderi.specs.Promises.{CheckSays}
 use Rattle.ushanderi.specs.Entry.{entryAnswer, admits-check, admits-fit, few-solids}
 use borrow.Author.Needs.{needs}
-use Rattle.ushanderi.proofs.calls.check.Statement.{statement}
-use Rattle.ushanderi.proofs.calls.check.Tie as tie
-use Rattle.ushanderi.proofs.calls.check.Reads as reads
-use Rattle.ushanderi.proofs.calls.check.Lts as lts
+use Rattle.ushanderi.proofs.plane.check.Statement.{statement}
+use Rattle.ushanderi.proofs.plane.check.Tie as tie
+use Rattle.ushanderi.proofs.plane.check.Reads as reads
+use Rattle.ushanderi.proofs.plane.check.Lts as lts
 use Rattle.ruler.proofs.count.Reads as count-reads
 use Rattle.ushanderi.proofs.entry.admit.Reads as admit-reads
 

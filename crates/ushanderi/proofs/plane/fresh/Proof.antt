@@ -3,10 +3,10 @@ use native.Mathlib.Omega.{arith}
 use Rattle.geometry.specs.Cases.{yes, no}
 use Rattle.ushanderi.specs.Promises.{FreshSays}
 use borrow.Author.Needs.{needs}
-use Rattle.ushanderi.proofs.calls.fresh.Statement.{statement}
-use Rattle.ushanderi.proofs.calls.fresh.Tie as tie
-use Rattle.ushanderi.proofs.calls.fresh.Reads as reads
-use Rattle.ushanderi.proofs.calls.fresh.Lts as lts
+use Rattle.ushanderi.proofs.plane.fresh.Statement.{statement}
+use Rattle.ushanderi.proofs.plane.fresh.Tie as tie
+use Rattle.ushanderi.proofs.plane.fresh.Reads as reads
+use Rattle.ushanderi.proofs.plane.fresh.Lts as lts
 use Rattle.table.proofs.fresh.Reads as fresh-reads
 use Rattle.table.proofs.size_right.Reads as size-right-reads
 

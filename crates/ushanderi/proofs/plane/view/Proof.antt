@@ -4,10 +4,10 @@ use native.Mathlib.Omega.{arith}
 use mir.Facts.{toZ-ofZ}
 use Rattle.table.specs.View.{Places, places-in}
 use borrow.Author.Needs.{needs}
-use Rattle.ushanderi.proofs.calls.view.Statement.{statement}
-use Rattle.ushanderi.proofs.calls.view.Tie as tie
-use Rattle.ushanderi.proofs.calls.view.Reads as reads
-use Rattle.ushanderi.proofs.calls.view.Lts as lts
+use Rattle.ushanderi.proofs.plane.view.Statement.{statement}
+use Rattle.ushanderi.proofs.plane.view.Tie as tie
+use Rattle.ushanderi.proofs.plane.view.Reads as reads
+use Rattle.ushanderi.proofs.plane.view.Lts as lts
 use Rattle.table.proofs.place.Reads as place-reads
 
 -- src/calls.rt:25:9

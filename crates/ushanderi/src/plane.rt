@@ -1,4 +1,4 @@
-// The calls, each with its promise as its whole contract.
+// Fresh, check and view, each with its promise as its whole contract.
 ghost use Rattle.ushanderi.specs.Promises.{FreshSays, CheckSays, ViewSays};
 use crate::answer::Answer;
 use crate::answer::DONE;

@@ -1,8 +1,10 @@
-//! Links the server's static archive into whatever uses this package.
+//! Links the server's static archive into whatever uses this package, and with the feature `inner` the archive of
+//! repeated inner work too.
 use std::env;
-use std::path::PathBuf;
+use std::path::{Path, PathBuf};
 
-const ARCHIVE: &str = "libushanderi.a";
+const SERVER: &str = "ushanderi";
+const REPEATED_INNER_WORK: &str = "ushanderi_repeated";
 const FOLDER_VARIABLE: &str = "USHANDERI_LIB_DIR";
 
 fn main() {
@@ -11,14 +13,21 @@ fn main() {
         Some(folder) => package.join(folder),
         None => package.join("../target/staticlib"),
     };
-    let archive = folder.join(ARCHIVE);
     println!("cargo:rerun-if-env-changed={FOLDER_VARIABLE}");
+    println!("cargo:rustc-link-search=native={}", folder.display());
+    if env::var_os("CARGO_FEATURE_INNER").is_some() {
+        link(&folder, REPEATED_INNER_WORK);
+    }
+    link(&folder, SERVER);
+}
+
+fn link(folder: &Path, name: &str) {
+    let archive = folder.join(format!("lib{name}.a"));
     println!("cargo:rerun-if-changed={}", archive.display());
     assert!(
         archive.exists(),
-        "{} is not there: run `rt staticlib ushanderi` in the repository's root first, or set {FOLDER_VARIABLE}",
+        "{} is not there: run `rt staticlib {name}` in the repository's root first, or set {FOLDER_VARIABLE}",
         archive.display()
     );
-    println!("cargo:rustc-link-search=native={}", folder.display());
-    println!("cargo:rustc-link-lib=static=ushanderi");
+    println!("cargo:rustc-link-lib=static={name}");
 }

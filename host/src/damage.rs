@@ -6,10 +6,13 @@ use crate::words::*;
 
 /// A way to come from a sound table to another table; it makes nothing where the table gives no occasion.
 pub struct Damage {
+    /// What was done, for the report.
     pub name: &'static str,
+    /// Does it.
     pub make: fn(&Sample, &mut Random) -> Option<Vec<i32>>,
 }
 
+/// Damage to the words of a table, not to the tiles they stand for.
 pub const WORD_DAMAGES: [Damage; 31] = [
     Damage { name: "a word changed by one", make: nudged_word },
     Damage { name: "a word at a limit", make: limit_word },

@@ -6,6 +6,7 @@ use crate::rects::{tiles, Rect, Solid, Tile};
 use crate::tables::{stitched, table_of, Sample, Stitched};
 use crate::words::*;
 
+/// Tables that were never right.
 pub const FORGERIES: [Damage; 19] = [
     Damage { name: "space split at a row", make: space_split_at_row },
     Damage { name: "space split at a column", make: space_split_at_column },

@@ -1,13 +1,25 @@
 //! The host's side of the tile server: its calls made safe, and the independent programs they are compared with.
+//!
+//! A program that only wants the server uses [`plane::Plane`]. [`calls`] has the calls as they are, on words that the
+//! caller owns. All other modules belong to the comparison runs and the benchmark: [`rects`] and [`answers`] are the
+//! rectangle-list program, [`plain`] is the server's method in ordinary Rust.
 #![deny(unsafe_code)]
+#![warn(missing_docs)]
 
+pub mod answers;
+pub mod asks;
 #[allow(unsafe_code)]
 pub mod calls;
 pub mod damage;
 pub mod forged;
+pub mod layouts;
+pub mod lent;
 pub mod pictures;
 pub mod plain;
+pub mod plane;
 pub mod random;
 pub mod rects;
+pub mod refusal;
 pub mod tables;
+pub mod tally;
 pub mod words;

@@ -4,20 +4,32 @@ use crate::random::Random;
 use crate::rects::{Rect, Solid};
 use crate::words::EDGE;
 
+/// A sort of picture.
 #[derive(Clone, Copy, Debug, PartialEq, Eq)]
 pub enum Style {
+    /// A few solids of any size.
     FewBig,
+    /// Solids of up to five cells a side, crowded.
     ManySmall,
+    /// All edges on a few lines.
     FewLines,
+    /// Rows of equal cells, some missing.
     EqualRows,
+    /// Solids at the plane's rim.
     Rim,
+    /// Lines of one cell's width.
     OneCellWide,
+    /// A chessboard.
     Corners,
+    /// A sheet cut into pieces, some missing.
     CutSheet,
+    /// The plane cut into pieces, no space left.
     CutPlane,
+    /// One solid on all cells.
     WholePlane,
 }
 
+/// All of them.
 pub const STYLES: [Style; 10] = [
     Style::FewBig,
     Style::ManySmall,

@@ -1,10 +1,12 @@
 //! A small seeded generator (splitmix64), so that every run can be repeated exactly from its seed.
 
+/// The generator; equal seeds give equal numbers.
 pub struct Random {
     state: u64,
 }
 
 impl Random {
+    /// A generator that begins at the seed.
     pub fn new(seed: u64) -> Random {
         Random { state: seed }
     }
@@ -17,6 +19,7 @@ impl Random {
         z ^ (z >> 31)
     }
 
+    /// Any 32-bit word.
     pub fn word(&mut self) -> i32 {
         (self.bits() >> 32) as i32
     }
@@ -32,18 +35,22 @@ impl Random {
         (i64::from(low) + (self.bits() % span) as i64) as i32
     }
 
+    /// True once in so many times.
     pub fn one_in(&mut self, times: usize) -> bool {
         self.below(times) == 0
     }
 
+    /// One of the choices.
     pub fn pick<T: Copy>(&mut self, choices: &[T]) -> T {
         choices[self.below(choices.len())]
     }
 
+    /// One of the choices, if there is any.
     pub fn pick_some<T: Copy>(&mut self, choices: &[T]) -> Option<T> {
         (!choices.is_empty()).then(|| self.pick(choices))
     }
 
+    /// Brings the items into a random order.
     pub fn shuffle<T>(&mut self, items: &mut [T]) {
         for last in (1..items.len()).rev() {
             items.swap(last, self.below(last + 1));

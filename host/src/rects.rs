@@ -3,21 +3,29 @@
 use crate::calls::{number, Answer};
 use crate::words::*;
 
+/// The cells with left <= x < right and bottom <= y < top.
 #[derive(Clone, Copy, Debug, PartialEq, Eq, PartialOrd, Ord)]
 pub struct Rect {
+    /// The first column.
     pub left: i32,
+    /// The first row.
     pub bottom: i32,
+    /// The column after the last.
     pub right: i32,
+    /// The row after the last.
     pub top: i32,
 }
 
 impl Rect {
+    /// The whole plane.
     pub const PLANE: Rect = Rect { left: -EDGE, bottom: -EDGE, right: EDGE, top: EDGE };
 
-    pub fn new(left: i32, bottom: i32, right: i32, top: i32) -> Rect {
+    /// The rectangle with these edges, which may be none at all.
+    pub const fn new(left: i32, bottom: i32, right: i32, top: i32) -> Rect {
         Rect { left, bottom, right, top }
     }
 
+    /// Whether a solid may be this: some cells, all of them in the plane.
     pub fn keeps_limits(&self) -> bool {
         -EDGE <= self.left
             && self.left < self.right
@@ -27,10 +35,12 @@ impl Rect {
             && self.top <= EDGE
     }
 
+    /// Whether the cell lies in the rectangle.
     pub fn holds(&self, (x, y): (i32, i32)) -> bool {
         self.left <= x && x < self.right && self.bottom <= y && y < self.top
     }
 
+    /// Whether some cell lies in both.
     pub fn shares_cell(&self, other: &Rect) -> bool {
         self.left < other.right && other.left < self.right && self.bottom < other.top && other.bottom < self.top
     }
@@ -46,29 +56,43 @@ impl Rect {
     }
 }
 
+/// A piece of metal.
 #[derive(Clone, Copy, Debug, PartialEq, Eq, PartialOrd, Ord)]
 pub struct Solid {
+    /// Its cells.
     pub rect: Rect,
+    /// Its net, 1 or more.
     pub label: i32,
 }
 
 /// A solid or a space tile; space has label 0.
 #[derive(Clone, Copy, Debug, PartialEq, Eq, PartialOrd, Ord)]
 pub struct Tile {
+    /// Its cells.
     pub rect: Rect,
+    /// Space or solid, as a record says it.
     pub kind: i32,
+    /// A solid's label, or 0.
     pub label: i32,
 }
 
 impl Tile {
+    /// A space tile.
     pub fn space(rect: Rect) -> Tile {
         Tile { rect, kind: SPACE, label: 0 }
     }
 
+    /// A solid as a tile.
     pub fn solid(rect: Rect, label: i32) -> Tile {
         Tile { rect, kind: SOLID, label }
     }
 
+    /// Whether the tile is a solid.
+    pub fn is_solid(&self) -> bool {
+        self.kind == SOLID
+    }
+
+    /// What a record says of its tile, its stitches left out.
     pub fn of_record(record: &Record) -> Tile {
         let rect = Rect::new(record[LEFT], record[BOTTOM], record[RIGHT], record[TOP]);
         Tile { rect, kind: record[KIND], label: record[LABEL] }
@@ -158,11 +182,7 @@ pub fn sound_by_meaning(words: &[i32]) -> Option<usize> {
         return None;
     }
     let mut found: Vec<Tile> = used.iter().map(|record| Tile::of_record(record)).collect();
-    let solids: Vec<Solid> = found
-        .iter()
-        .filter(|tile| tile.kind == SOLID)
-        .map(|tile| Solid { rect: tile.rect, label: tile.label })
-        .collect();
+    let solids = solids_of(words);
     if !is_a_picture(&solids, most_solids(table.len())) {
         return None;
     }
@@ -173,6 +193,12 @@ pub fn sound_by_meaning(words: &[i32]) -> Option<usize> {
         return None;
     }
     Some(solids.len())
+}
+
+/// The records of kind solid, in the table's order.
+pub fn solids_of(words: &[i32]) -> Vec<Solid> {
+    let solid = records(words).iter().filter(|record| record[KIND] == SOLID).map(Tile::of_record);
+    solid.map(|Tile { rect, label, .. }| Solid { rect, label }).collect()
 }
 
 /// Not more solids than allowed, each within the limits, no cell held twice.

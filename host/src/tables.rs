@@ -7,10 +7,13 @@ use crate::words::*;
 /// A tile that has no place yet: its stitches name tiles of the same sheet by their place in the sheet.
 #[derive(Clone, Copy, Debug)]
 pub struct Stitched {
+    /// The tile.
     pub tile: Tile,
+    /// tr, rt, bl and lb.
     pub stitches: [Option<usize>; 4],
 }
 
+/// The tiles with their stitches, in the same order.
 pub fn stitched(tiles: &[Tile]) -> Vec<Stitched> {
     tiles.iter().map(|&tile| Stitched { tile, stitches: stitches(tiles, &tile) }).collect()
 }
@@ -38,18 +41,24 @@ fn record_of(item: &Stitched, places: &[usize]) -> Record {
 
 /// A sound table together with the picture it was made from.
 pub struct Sample {
+    /// What sort of picture it is.
     pub style: Style,
+    /// The picture.
     pub solids: Vec<Solid>,
+    /// The picture's tiles.
     pub tiles: Vec<Tile>,
+    /// The tiles in random records.
     pub table: Vec<i32>,
 }
 
 impl Sample {
+    /// How many records the table has.
     pub fn records(&self) -> usize {
         self.table.len() / RECORD_WORDS
     }
 }
 
+/// A random picture in a table of so many records.
 pub fn sample(records: usize, random: &mut Random) -> Sample {
     let style = random.pick(&STYLES);
     let room = most_solids(records);

@@ -1,4 +1,4 @@
--- A table has one order of its solids, so what save writes is settled by the table. Assumes nothing.
+-- A sound table has an order of its solids, and only one, so what save writes is settled by the table. Assumes nothing.
 use mathlib.Core.Path.{_≡_, refl, sym, ap, ap₂, _∙_, subst}
 use mathlib.Core.Bool.{true}
 use mathlib.Core.List.{List, [], _∷_, _++_, map}
@@ -14,10 +14,13 @@ use Rattle.geometry.specs.Count.{count, inject, pigeonhole}
 use Rattle.geometry.specs.Picture.{SOLID}
 use Rattle.geometry.specs.Tiling.{eq→eqb}
 use Rattle.table.specs.Words.{KIND, recordsOf, num}
-use Rattle.table.specs.Sound.{solidAt, solidsIn}
+use Rattle.table.specs.Sound.{SizeRight, solidAt, solidsIn}
+use Rattle.table.specs.Forms.{Forms}
 use Rattle.seek.specs.Meaning.{SolidIn, Lists}
 use Rattle.layout.specs.Bytes.{fileBytes}
 use Rattle.layout.specs.Order.{Comes, higher, level, savedOf, Saves}
+use Rattle.layout.specs.Keys.{keysTo, recordOf, sorted-lists}
+use Rattle.layout.specs.Sorting.{sorted, sorted-sorts}
 
 -- ---- two lists of the same records in the same order are one, where no two records precede each other
 
@@ -69,6 +72,11 @@ comes-asym t j k (level a b) (level c d) = omega arith
 
 pub one-order : (t : List ℤ) (ks ls : List ℕ) → Lists (SolidIn t) (Comes t) ks → Lists (SolidIn t) (Comes t) ls → ks ≡ ls
 one-order t ks ls k l = lists-one (Comes t) (comes-asym t) (SolidIn t) ks ls k l
+
+pub some-order : (t : List ℤ) → Forms t → SizeRight t → (ks : List ℕ) × Lists (SolidIn t) (Comes t) ks
+some-order t f z =
+    let keys = keysTo t (recordsOf t) in
+    (map recordOf (sorted keys), sorted-lists t f z (sorted keys) (sorted-sorts keys))
 
 -- as many as there are solids
 pub order-length : (t : List ℤ) (ks : List ℕ) → Lists (SolidIn t) (Comes t) ks → length ks ≡ solidsIn t

@@ -39,3 +39,9 @@ admits-fit t e n (fit f i) q = (f, cc)
 -- a number of records is a word's
 pub few-solids : (t : List ℤ) → SizeRight t → solidsIn t < 2 ^ 31
 few-solids t s = omega (arith, s .most, count-le (recordsOf t) (solidAt t))
+
+abbrev pub FewSolids : Entry → Type 0
+FewSolids e = (n : ℕ) → e ≡ Sound n → n < 2 ^ 31
+
+pub admits-few : (t : List ℤ) (e : Entry) → Admits t e → FewSolids e
+admits-few t e a n q = let (f, i) = admits-fit t e n a q in omega (arith, few-solids t (f .size))

@@ -15,6 +15,19 @@ pub const POINT: i32 = 3;
 
 pub const RECT: i32 = 4;
 
+pub const LABEL: i32 = 5;
+
+pub const OCCUPIED: i32 = 6;
+
+pub const FULL: i32 = 7;
+
+pub const SPACE: i32 = 8;
+
 pub const SIDE: i32 = 9;
 
 pub const SHORT: i32 = 10;
+
+pub const FILE: i32 = 11;
+
+// Area search's value where the rectangle is free.
+pub const NOTHING: i32 = -1;

@@ -1,5 +1,10 @@
 // The checks 1 and 2, which every call but fresh, view and load runs first.
-ghost use Rattle.ushanderi.specs.Entry.{Admits};
+ghost use mathlib.Core.Path.{_≡_};
+ghost use Rattle.ushanderi.specs.Entry.{Admits, entryAnswer, FewSolids};
+use crate::answer::Answer;
+use crate::answer::DONE;
+use crate::answer::SIZE;
+use crate::answer::UNSOUND;
 
 pub enum Entry {
     Size,
@@ -20,5 +25,26 @@ pub fn admit(t: &[i32]) -> Entry
         }
     } else {
         Entry::Size
+    }
+}
+
+// What the checks 1 and 2 found, by its number and value.
+pub fn entry_answer(e: Entry) -> Answer
+    requires { ⌜ FewSolids e ⌝ }
+    ensures { λ r. ⌜ r ≡ entryAnswer e ⌝ }
+{
+    match e {
+        Entry::Size => Answer {
+            number: SIZE,
+            value: 0,
+        },
+        Entry::Unsound => Answer {
+            number: UNSOUND,
+            value: 0,
+        },
+        Entry::Sound(solids) => Answer {
+            number: DONE,
+            value: ruler::count(solids as u64),
+        },
     }
 }

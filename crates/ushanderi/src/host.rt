@@ -1,8 +1,11 @@
 // The same calls by C names: each does what the call of its name does, and its contract is that call's promise.
+ghost use Rattle.ruler.specs.Ruler.{ruler};
 ghost use Rattle.table.specs.View.{Places};
-ghost use Rattle.ushanderi.specs.Promises.{FreshSays, CheckSays};
+ghost use Rattle.ushanderi.specs.Promises.{FreshSays, CheckSays, FindSays, NeighboursSays, SearchSays, EnumerateSays};
+ghost use Rattle.ushanderi.specs.Reading.{rulerArea};
 use crate::answer::Answer;
 use crate::plane;
+use crate::reading;
 use table::Part;
 
 #[no_mangle]
@@ -25,4 +28,40 @@ pub extern "C" fn ush_view(t: &[i32], index: i32) -> Part
     ensures { λ r. ⌜ Places (now (t .entry)) index (r .at) (r .len) ⌝ }
 {
     table::place(t, index)
+}
+
+#[no_mangle]
+pub extern "C" fn ush_find(t: &[i32], x: i32, y: i32, hint: i32) -> Answer
+    ensures { λ r. ⌜ FindSays (now (t .entry)) (ruler x) (ruler y) r ⌝ }
+{
+    let f = reading::find(t, x, y, hint);
+    reading::found_answer(f)
+}
+
+#[no_mangle]
+pub extern "C" fn ush_neighbours(t: &[i32], x: i32, y: i32, side: i32, out: &mut [i32]) -> Answer
+    ensures { λ r. ⌜ NeighboursSays (now (t .entry)) (ruler x) (ruler y) side (now (out .entry)) (now (out .exit)) r ⌝ }
+{
+    reading::neighbours(t, x, y, side, out)
+}
+
+#[no_mangle]
+pub extern "C" fn ush_search(t: &[i32], left: i32, bottom: i32, right: i32, top: i32) -> Answer
+    ensures { λ r. ⌜ SearchSays (now (t .entry)) (rulerArea left bottom right top) r ⌝ }
+{
+    reading::search(t, left, bottom, right, top)
+}
+
+#[no_mangle]
+pub extern "C" fn ush_enumerate(
+    t: &[i32],
+    left: i32,
+    bottom: i32,
+    right: i32,
+    top: i32,
+    out: &mut [i32],
+) -> Answer
+    ensures { λ r. ⌜ EnumerateSays (now (t .entry)) (rulerArea left bottom right top) (now (out .entry)) (now (out .exit)) r ⌝ }
+{
+    reading::enumerate(t, left, bottom, right, top, out)
 }

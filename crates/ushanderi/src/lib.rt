@@ -1,5 +1,9 @@
 // The server: the calls that a host makes. Every table and every number is answered, and no call asks for anything beforehand.
 pub mod answer;
+pub mod editing;
 mod entry;
 pub mod host;
+pub mod host_writes;
+pub mod layouts;
 pub mod plane;
+pub mod reading;

@@ -3,9 +3,8 @@ ghost use Rattle.ushanderi.specs.Promises.{FreshSays, CheckSays, ViewSay
 use crate::answer::Answer;
 use crate::answer::DONE;
 use crate::answer::SIZE;
-use crate::answer::UNSOUND;
-use crate::entry::Entry;
 use crate::entry::admit;
+use crate::entry::entry_answer;
 
 pub fn fresh(t: &mut [i32]) -> Answer
     ensures { λ r. ⌜ FreshSays (now (t .entry)) (now (t .exit)) r ⌝ }
@@ -28,20 +27,7 @@ pub fn check(t: &[i32]) -> Answer
     ensures { λ r. ⌜ CheckSays (now (t .entry)) r ⌝ }
 {
     let e = admit(t);
-    match e {
-        Entry::Size => Answer {
-            number: SIZE,
-            value: 0,
-        },
-        Entry::Unsound => Answer {
-            number: UNSOUND,
-            value: 0,
-        },
-        Entry::Sound(solids) => Answer {
-            number: DONE,
-            value: ruler::count(solids as u64),
-        },
-    }
+    entry_answer(e)
 }
 
 pub fn view(t: &[i32], index: i32) -> &[i32]

@@ -1,35 +1,56 @@
-//! The drawn examples: they test the rectangle-list program as much as the server.
-use crate::{agree, Report};
+//! The drawn examples, starred or not, as one list: each starts from its own table, whose records stand in random
+//! places. They test the rectangle-list program as much as the server.
+use crate::case::tile_of;
+use crate::Report;
 use ushanderi_host::calls::{self, number, Answer};
+use ushanderi_host::layouts::{A, B, C};
 use ushanderi_host::random::Random;
 use ushanderi_host::rects::{stitches, tiles, Rect, Solid, Tile};
 use ushanderi_host::tables::{stitched, table_of};
-use ushanderi_host::words::{records_for, SPACE};
+use ushanderi_host::tally::agree;
+use ushanderi_host::words::*;
 
-const A: Solid = solid(0, 0, 10, 10, 1);
-const B: Solid = solid(20, 0, 30, 10, 2);
-const C: Solid = solid(5, 15, 25, 20, 3);
-const GAP: Solid = solid(10, 0, 20, 10, 4);
-const WHOLE: Solid = Solid { rect: Rect::PLANE, label: 1 };
+/// Something to do with a table, and the rectangles or numbers it is to give.
+type Example = (&'static str, fn() -> Told, &'static [i32]);
+type Told = Vec<i32>;
+
+const PLANE: Rect = Rect::PLANE;
+const GAP: Solid = Solid { rect: Rect::new(10, 0, 20, 10), label: 4 };
+const WHOLE: Solid = Solid { rect: PLANE, label: 1 };
 
 /// Each picture with the number of its space tiles.
 const PICTURES: [(&[Solid], usize); 6] =
     [(&[], 1), (&[A], 4), (&[A, B], 5), (&[A, B, C], 8), (&[A, B, C, GAP], 7), (&[WHOLE], 0)];
 
-const fn solid(left: i32, bottom: i32, right: i32, top: i32, label: i32) -> Solid {
-    Solid { rect: Rect { left, bottom, right, top }, label }
-}
+/// All examples, call by call: a call that the archive does not have yet is left out here, with its section below.
+const EXAMPLES: [(&str, &[Example]); 8] = [
+    ("fresh", FRESH),
+    ("find", FIND),
+    ("neighbours", NEIGHBOURS),
+    ("search", SEARCH),
+    ("enumerate", ENUMERATE),
+    ("create", CREATE),
+    ("delete", DELETE),
+    ("save and load", SAVE_AND_LOAD),
+];
 
 pub fn run(_: f64) -> Report {
     for (solids, spaces) in PICTURES {
         let tiles = tiles(solids);
-        let found = tiles.iter().filter(|tile| tile.kind == SPACE).count();
+        let found = tiles.iter().filter(|tile| !tile.is_solid()).count();
         agree(found == spaces, || format!("{solids:?}: {found} space tiles, wanted {spaces}"))?;
         expect(&tiles, records_for(solids.len()), Answer::done(solids.len()))?;
     }
     expect(&tiles(&[A, B]), 20, Answer::refused(number::UNSOUND))?;
     stitches_of_a()?;
-    Ok(vec![format!("{} pictures as drawn", PICTURES.len())])
+    for (call, examples) in EXAMPLES {
+        for (words, example, wanted) in examples {
+            let given = example();
+            agree(given == *wanted, || format!("{call}, {words}: {given:?}, wanted {wanted:?}"))?;
+        }
+    }
+    let examples: usize = EXAMPLES.iter().map(|(_, examples)| examples.len()).sum();
+    Ok(vec![format!("{} pictures as drawn, {examples} examples", PICTURES.len())])
 }
 
 fn expect(tiles: &[Tile], records: usize, wanted: Answer) -> Result<(), String> {
@@ -42,7 +63,7 @@ fn expect(tiles: &[Tile], records: usize, wanted: Answer) -> Result<(), String> 
 fn stitches_of_a() -> Result<(), String> {
     let tiles = tiles(&[A]);
     let named = stitches(&tiles, &tiles[0]).map(|named| named.map(|place| tiles[place].rect));
-    let Rect { left, bottom, right, top } = Rect::PLANE;
+    let Rect { left, bottom, right, top } = PLANE;
     let wanted = [
         Rect::new(10, 0, right, 10),
         Rect::new(left, 10, right, top),
@@ -50,4 +71,151 @@ fn stitches_of_a() -> Result<(), String> {
         Rect::new(left, bottom, right, 0),
     ];
     agree(named == wanted.map(Some), || format!("the stitches of A: {named:?}, wanted {wanted:?}"))
+}
+
+fn table_with(solids: &[Solid], records: usize) -> Vec<i32> {
+    table_of(&stitched(&tiles(solids)), records, &mut Random::new(5)).expect("the picture fits")
+}
+
+fn table(solids: &[Solid]) -> Vec<i32> {
+    table_with(solids, records_for(solids.len()))
+}
+
+/// A, B and C with room for one solid more.
+fn abc() -> Vec<i32> {
+    table_with(&[A, B, C], records_for(4))
+}
+
+fn full() -> Vec<i32> {
+    table(&[A, B, C])
+}
+
+fn told(answer: Answer) -> Told {
+    vec![answer.number, answer.value]
+}
+
+/// Nothing where the record is none, so that an answer that is no record shows as such.
+fn rect_at(table: &[i32], record: i32) -> Told {
+    tile_of(table, record).map_or(Vec::new(), |Tile { rect, .. }| vec![rect.left, rect.bottom, rect.right, rect.top])
+}
+
+fn rect_of(table: &[i32], answer: Answer) -> Told {
+    rect_at(table, answer.value)
+}
+
+fn spaces(table: &[i32]) -> i32 {
+    records(table).iter().filter(|record| record[KIND] == SPACE).count() as i32
+}
+
+/// The left edges of what is listed.
+fn lefts(table: &[i32], list: &[i32], answer: Answer) -> Told {
+    let listed = list.iter().take(answer.value.max(0) as usize);
+    listed.flat_map(|&record| rect_at(table, record).into_iter().take(1)).collect()
+}
+
+const FRESH: &[Example] = &[
+    ("190 words: SIZE", || told(calls::fresh(&mut [7; 190])), &[1, 0]),
+    ("200 words: accepted", || told(calls::fresh(&mut [7; 200])), &[0, 0]),
+    ("40,160 words: accepted", || told(calls::fresh(&mut [7; 40_160])), &[0, 0]),
+    ("40,170 words: SIZE", || told(calls::fresh(&mut [7; 40_170])), &[1, 0]),
+];
+
+const FIND: &[Example] = &[
+    ("cell (9, 9) is A", || found(9, 9), &[0, 0, 10, 10]),
+    ("cell (10, 5) is the gap", || found(10, 5), &[10, 0, 20, 10]),
+    ("cell (0, 0) is A", || found(0, 0), &[0, 0, 10, 10]),
+    ("cell (E, 0) is POINT", || told(calls::find(&abc(), EDGE, 0, 0)), &[3, 0]),
+    ("cell (E - 1, E - 1) is found", || found(EDGE - 1, EDGE - 1), &[-EDGE, 20, EDGE, EDGE]),
+];
+
+fn found(x: i32, y: i32) -> Told {
+    rect_of(&abc(), calls::find(&abc(), x, y, -1))
+}
+
+const NEIGHBOURS: &[Example] = &[("top of the bottom strip", || beside(0, -1, 2), &[30, 20, 10, 0, -EDGE])];
+
+fn beside(x: i32, y: i32, side: i32) -> Told {
+    let mut list = [0; 9];
+    let answer = calls::neighbours(&abc(), x, y, side, &mut list);
+    lefts(&abc(), &list, answer)
+}
+
+const SEARCH: &[Example] = &[
+    ("10 0 20 10: free", || told(calls::search(&abc(), 10, 0, 20, 10)), &[0, NO_TILE]),
+    ("5 0 25 20: C", || rect_of(&abc(), calls::search(&abc(), 5, 0, 25, 20)), &[5, 15, 25, 20]),
+    ("0 0 30 15: A", || rect_of(&abc(), calls::search(&abc(), 0, 0, 30, 15)), &[0, 0, 10, 10]),
+];
+
+const ENUMERATE: &[Example] = &[
+    ("-5 0 35 20", || listed(-5, 0, 35, 20), &[-EDGE, 5, 25, -EDGE, -EDGE, 0, 10, 20, 30]),
+    ("5 2 25 8: A, gap, B", || listed(5, 2, 25, 8), &[0, 10, 20]),
+];
+
+fn listed(left: i32, bottom: i32, right: i32, top: i32) -> Told {
+    let mut list = [0; 16];
+    let answer = calls::enumerate(&abc(), left, bottom, right, top, &mut list);
+    lefts(&abc(), &list, answer)
+}
+
+const CREATE: &[Example] = &[
+    ("9 3 12 4 is OCCUPIED", || vec![calls::create(&mut abc(), 9, 3, 12, 4, 4).number], &[6]),
+    ("9 3 12 4 is OCCUPIED by A", || rect_of(&abc(), calls::create(&mut abc(), 9, 3, 12, 4, 4)), &[0, 0, 10, 10]),
+    ("10 0 20 10: done, 7 space tiles", || created(&mut abc(), 10, 0, 20, 10), &[0, 7]),
+    ("the plane: done, no space tile left", || created(&mut table(&[]), -EDGE, -EDGE, EDGE, EDGE), &[0, 0]),
+    ("3 3 3 4, label 0: RECT", || told(calls::create(&mut abc(), 3, 3, 3, 4, 0)), &[4, 0]),
+    ("overlap in a full table: OCCUPIED", || vec![calls::create(&mut full(), 9, 3, 12, 4, 4).number], &[6]),
+];
+
+fn created(table: &mut [i32], left: i32, bottom: i32, right: i32, top: i32) -> Told {
+    vec![calls::create(table, left, bottom, right, top, 4).number, spaces(table)]
+}
+
+const DELETE: &[Example] = &[
+    ("at (12, 17): label 3, 5 space tiles", || deleted(12, 17), &[0, 3, 5]),
+    ("at (15, 5): SPACE", || told(calls::delete(&mut abc(), 15, 5)), &[8, 0]),
+    ("20 records: A, B is FULL, delete A, B", one_solid_at_a_time, &[0, 7, 0, 0]),
+];
+
+fn deleted(x: i32, y: i32) -> Told {
+    let mut table = abc();
+    let answer = calls::delete(&mut table, x, y);
+    vec![answer.number, answer.value, spaces(&table)]
+}
+
+fn one_solid_at_a_time() -> Told {
+    let mut table = table_with(&[], 20);
+    let first = calls::create(&mut table, 0, 0, 10, 10, 1).number;
+    let refused = calls::create(&mut table, 20, 0, 30, 10, 2).number;
+    let removed = calls::delete(&mut table, 5, 5).number;
+    vec![first, refused, removed, calls::create(&mut table, 20, 0, 30, 10, 2).number]
+}
+
+const SAVE_AND_LOAD: &[Example] = &[
+    ("save: highest top first", saved, &[5, 15, 25, 20, 3, 0, 0, 10, 10, 1, 20, 0, 30, 10, 2]),
+    ("no bytes: a fresh plane", || loaded(&[]), &[0, 0, 1]),
+    ("19 bytes: FILE", || told(calls::load(&mut abc(), &[0; 19])), &[11, 0]),
+    ("A: done, 4 space tiles", || loaded(&[A]), &[0, 1, 4]),
+    ("A twice: OCCUPIED, index 1", || loaded(&[A, A]), &[6, 1, 1]),
+    ("A and an empty rectangle: RECT, index 1", || loaded(&[A, at(3, 3, 3, 4, 0)]), &[4, 1, 1]),
+    ("a label of 0: LABEL", || loaded(&[at(3, 3, 4, 4, 0)]), &[5, 0, 1]),
+    ("A and B into 20 records: FULL, index 1", || loaded(&[A, B]), &[7, 1, 1]),
+];
+
+const fn at(left: i32, bottom: i32, right: i32, top: i32, label: i32) -> Solid {
+    Solid { rect: Rect::new(left, bottom, right, top), label }
+}
+
+fn saved() -> Told {
+    let mut bytes = [0; 60];
+    calls::save(&abc(), &mut bytes);
+    bytes.as_chunks().0.iter().map(|&word| i32::from_le_bytes(word)).collect()
+}
+
+/// The answer of a load into 20 records, and the space tiles after it.
+fn loaded(solids: &[Solid]) -> Told {
+    let words = solids.iter().flat_map(|Solid { rect, label }| [rect.left, rect.bottom, rect.right, rect.top, *label]);
+    let bytes: Vec<u8> = words.flat_map(i32::to_le_bytes).collect();
+    let mut table = vec![3; 200];
+    let answer = calls::load(&mut table, &bytes);
+    vec![answer.number, answer.value, spaces(&table)]
 }

@@ -1,12 +1,16 @@
 //! Fresh, on lent words that are full of other numbers and lie between words that are not lent.
-use crate::{agree, scaled, size_fits, Report, NAMED_SIZES};
+use crate::{scaled, size_fits, Report, NAMED_SIZES};
 use ushanderi_host::calls::{self, number, Answer};
+use ushanderi_host::lent::Lent;
 use ushanderi_host::plain;
 use ushanderi_host::random::Random;
+use ushanderi_host::tally::agree;
 use ushanderi_host::words::{EDGE, MOST_RECORDS, RECORD_WORDS};
 
-/// Words before and after the lent ones, which no call may touch.
-const MARGIN: usize = 16;
+type Fresh = fn(&mut [i32]) -> Answer;
+
+const PROGRAMS: [(&str, Fresh); 2] = [("the server", calls::fresh), ("the plain program", plain::fresh)];
+
 const RANDOM_SIZES: usize = 4_000;
 
 pub fn run(scale: f64) -> Report {
@@ -23,27 +27,24 @@ pub fn run(scale: f64) -> Report {
 }
 
 fn try_size(size: usize, random: &mut Random) -> Result<bool, String> {
-    let before: Vec<i32> = (0..size + 2 * MARGIN).map(|_| random.word()).collect();
-    let mut after = before.clone();
-    let answer = calls::fresh(&mut after[MARGIN..MARGIN + size]);
+    let before: Vec<i32> = (0..size).map(|_| random.word()).collect();
     let fits = size_fits(size);
     let wanted = if fits { Answer::done(0) } else { Answer::refused(number::SIZE) };
-    agree(answer == wanted, || format!("{size} words: {answer:?}, wanted {wanted:?}"))?;
-    let mut expected = before;
-    if fits {
-        expected[MARGIN..MARGIN + size].copy_from_slice(&empty_plane(size));
+    for (program, fresh) in PROGRAMS {
+        let about = |message: String| format!("{program}: {size} words: {message}");
+        let mut lent = Lent::new(&before, random.word());
+        let answer = fresh(lent.for_writing());
+        agree(answer == wanted, || about(format!("{answer:?}, wanted {wanted:?}")))?;
+        let after = lent.after("fresh's table", if fits { 0..size } else { 0..0 }).map_err(about)?;
+        agree(!fits || after == fresh_plane(size), || about("not a fresh plane".to_string()))?;
+        let checked = calls::check(after);
+        agree(checked == wanted, || about(format!("check after fresh: {checked:?}, wanted {wanted:?}")))?;
     }
-    agree(after == expected, || format!("{size} words: other words written than wanted"))?;
-    let mut plainly = vec![7; size];
-    let answer = plain::fresh(&mut plainly);
-    let same = answer == wanted && (!fits || plainly == empty_plane(size));
-    agree(same, || format!("{size} words, the plain program: {answer:?}, wanted {wanted:?}"))?;
-    let checked = calls::check(&after[MARGIN..MARGIN + size]);
-    agree(checked == wanted, || format!("{size} words, check after fresh: {checked:?}, wanted {wanted:?}"))?;
     Ok(fits)
 }
 
-fn empty_plane(size: usize) -> Vec<i32> {
+/// What fresh leaves.
+pub fn fresh_plane(size: usize) -> Vec<i32> {
     let mut words = vec![-EDGE, -EDGE, EDGE, EDGE, -1, -1, -1, -1, 1, 0];
     words.resize(size, 0);
     words

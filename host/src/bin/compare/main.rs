@@ -1,11 +1,24 @@
 //! The comparison runs: every call against the rectangle-list program and the rules' own words, on seeded random
 //! tables. Ends with a failure at the first disagreement. A first argument scales the amount, as 0.1 or 20.
+mod case;
 mod check;
+mod create;
+mod delete;
+mod edits;
+mod enumerate;
 mod examples;
+mod find;
 mod fresh;
+mod histories;
+mod lists;
+mod load;
+mod neighbours;
+mod save;
+mod search;
 mod view;
 
 use std::process::ExitCode;
+use std::time::Instant;
 
 /// What a run tried, a line for each kind; or the first disagreement.
 type Report = Result<Vec<String>, String>;
@@ -13,7 +26,22 @@ type Report = Result<Vec<String>, String>;
 /// What a run is about, and the run itself, which takes the scale.
 type Run = (&'static str, fn(f64) -> Report);
 
-const RUNS: [Run; 4] = [("examples", examples::run), ("fresh", fresh::run), ("check", check::run), ("view", view::run)];
+/// A call that the archive does not have yet is left out here, in the examples and in the histories.
+const RUNS: [Run; 13] = [
+    ("examples", examples::run),
+    ("fresh", fresh::run),
+    ("check", check::run),
+    ("view", view::run),
+    ("find", find::run),
+    ("neighbours", neighbours::run),
+    ("search", search::run),
+    ("enumerate", enumerate::run),
+    ("create", create::run),
+    ("delete", delete::run),
+    ("save", save::run),
+    ("load", load::run),
+    ("histories", histories::run),
+];
 
 /// The word counts that the rules name, and those beside them.
 const NAMED_SIZES: [usize; 14] = [0, 1, 9, 10, 190, 199, 200, 201, 210, 40_150, 40_159, 40_160, 40_161, 40_170];
@@ -28,8 +56,13 @@ fn main() -> ExitCode {
         }
     };
     for (call, run) in RUNS {
+        let start = Instant::now();
         match run(scale) {
-            Ok(lines) => lines.iter().for_each(|line| println!("{call}: {line}")),
+            Ok(lines) => {
+                lines.iter().for_each(|line| println!("{call}: {line}"));
+                // Not on standard output, which is the same for every run.
+                eprintln!("{call}: {:.1} s", start.elapsed().as_secs_f64());
+            }
             Err(message) => {
                 println!("{call}: DISAGREEMENT: {message}");
                 return ExitCode::FAILURE;
@@ -47,11 +80,4 @@ fn size_fits(words: usize) -> bool {
 
 fn scaled(amount: usize, scale: f64) -> u64 {
     ((amount as f64 * scale) as u64).max(1)
-}
-
-fn agree(condition: bool, message: impl FnOnce() -> String) -> Result<(), String> {
-    if condition {
-        return Ok(());
-    }
-    Err(message())
 }

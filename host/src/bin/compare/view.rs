@@ -1,9 +1,11 @@
 //! View, on sound and unsound tables: the part must lie in the caller's own slice, at the record's place.
-use crate::{agree, scaled, size_fits, Report, NAMED_SIZES};
+use crate::case::Case;
+use crate::{scaled, size_fits, Report, NAMED_SIZES};
 use std::hint::black_box;
-use ushanderi_host::calls;
+use ushanderi_host::calls::{self, number};
 use ushanderi_host::random::Random;
 use ushanderi_host::tables::sample;
+use ushanderi_host::tally::agree;
 use ushanderi_host::words::{LEAST_RECORDS, MOST_RECORDS, RECORD_WORDS};
 
 const SAMPLES: usize = 400;
@@ -48,6 +50,11 @@ fn view_all(table: &[i32], tally: &mut Tally) -> Result<(), String> {
         }
     }
     agree(*black_box(&mut lent) == table, || format!("{} words: view wrote to the table", table.len()))
+}
+
+pub fn ask(case: &Case, _: &mut Random) -> Result<i32, String> {
+    view_all(&case.table, &mut Tally::default())?;
+    Ok(number::DONE)
 }
 
 fn told(table: &[i32], record: i32, part: &[i32]) -> String {

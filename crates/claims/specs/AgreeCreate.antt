@@ -1,0 +1,221 @@
+-- Two answers that create's promise allows agree, but for the records of new solids and of space tiles; and creates on two tables of one picture
+-- go alike. Assumes nothing.
+use mathlib.Core.Path.{_≡_, refl, sym, ap, _∙_, subst}
+use mathlib.Core.Logic.{_≢_}
+use mathlib.Core.List.{List}
+use Prim.Native.Nat.{ℕ, _/_, _≤_}
+use native.Mathlib.Omega.{arith}
+use lib.IntN.{ℤ, pos}
+use lib.ListN.{length}
+use Rattle.geometry.specs.Cases.{eq-cases}
+use Rattle.geometry.specs.Picture.{ZERO, Tile, Has}
+use Rattle.table.specs.Words.{WIDTH, recordsOf, tileOf}
+use Rattle.table.specs.Sound.{capacity, solidsIn}
+use Rattle.seek.specs.Meaning.{SolidIn, Area, RectRight, First}
+use Rattle.seek.specs.Search.{first-one, free-no-first}
+use Rattle.ushanderi.specs.Answers.{DONE, RECT, LABEL, OCCUPIED, FULL, answered, accepted, refused}
+use Rattle.ushanderi.specs.declared.answer.Answer.{Answer}
+use Rattle.ushanderi.specs.Promises.{Unfit, Fit, drawn, Adds, Edited, CreateSays}
+use Rattle.claims.specs.AgreeChecks.{Then, stops, goes, both, same, join, NotFit, not-fit, unfit-agrees, fit-forms, number-is, not-done, unfit-not-done}
+use Rattle.claims.specs.AgreePicture.{Shows, SamePicture, SameTiles, picture-turned, shows, space-agrees, picture-count}
+
+-- ---- create's checks in their order
+
+record Met (t : List ℤ) (A : Area) : Type 0 where
+  x : ℕ
+  y : ℕ
+  i : ℕ
+  first : First t A x y i
+
+record Occupied (t : List ℤ) (A : Area) (a : Answer) : Type 0 where
+  met : Met t A
+  is : a ≡ answered OCCUPIED (met .i)
+
+record Created (t : List ℤ) (A : Area) (label : ℕ) (t′ : List ℤ) (a : Answer) : Type 0 where
+  pub at : ℕ
+  pub edited : Edited t t′
+  pub adds : Adds t t′ at (drawn A label)
+  pub is : a ≡ accepted at
+
+abbrev Checked : List ℤ → Area → ℕ → List ℤ → Answer → Type 0
+Checked t A label t′ a =
+    Then (RectRight A → ⊥) ((a ≡ refused RECT) × (t′ ≡ t))
+    (Then (label ≤ ZERO) ((a ≡ refused LABEL) × (t′ ≡ t))
+    (Then (Met t A) (Occupied t A a × (t′ ≡ t))
+    (Then (solidsIn t ≡ capacity (recordsOf t)) ((a ≡ refused FULL) × (t′ ≡ t)) (Created t A label t′ a))))
+
+create-order : (t : List ℤ) (A : Area) (label : ℕ) (t′ : List ℤ) (a : Answer) → CreateSays t A label t′ a
+    → Then (NotFit t) (Unfit t a × (t′ ≡ t)) (Fit t × Checked t A label t′ a)
+create-order t A label t′ a (CreateSays.unfit n w) = stops (not-fit t a n) (n, w)
+create-order t A label t′ a (CreateSays.rect f n e w) = goes (λ m. m f) (f, stops n (e, w))
+create-order t A label t′ a (CreateSays.label f r l e w) = goes (λ m. m f) (f, goes (λ m. m r) (stops l (e, w)))
+create-order t A label t′ a (CreateSays.occupied f r l x y i h e w) =
+    let m : Met t A = record { x = x; y = y; i = i; first = h } in
+    goes (λ m. m f) (f, goes (λ m. m r) (goes (λ h. omega arith) (stops m (record { met = m; is = e }, w))))
+create-order t A label t′ a (CreateSays.full f r l h n e w) =
+    goes (λ m. m f) (f, goes (λ m. m r) (goes (λ h. omega arith) (goes (λ m. free-no-first t A (m .x) (m .y) (m .i) h (m .first)) (stops n (e, w)))))
+create-order t A label t′ a (CreateSays.done f r l h n k d s e) =
+    goes (λ m. m f) (
+      f,
+      goes (λ m. m r) (goes (λ h. omega arith) (goes (λ m. free-no-first t A (m .x) (m .y) (m .i) h (m .first))
+          (goes (λ h. omega arith) (record { at = k; edited = d; adds = s; is = e })))),
+    )
+
+-- on a fit table
+create-checked : (t : List ℤ) (A : Area) (label : ℕ) (t′ : List ℤ) (a : Answer) → Fit t → CreateSays t A label t′ a → Checked t A label t′ a
+create-checked t A label t′ a f c = go (create-order t A label t′ a c)
+  where
+    go : Then (NotFit t) (Unfit t a × (t′ ≡ t)) (Fit t × Checked t A label t′ a) → Checked t A label t′ a
+    go (stops n r) = absurd (n f)
+    go (goes n q) = q .1
+
+-- ---- the picture after a create is settled by the picture before it
+
+adds-there : (u v u′ v′ : List ℤ) (i j : ℕ) (w : Tile) → SamePicture u v → Adds u u′ i w → Adds v v′ j w → (z : Tile) → Shows u′ z → Shows v′ z
+adds-there u v u′ v′ i j w p a b z s = eq-cases (s .at) i
+    (λ e. record { at = j; solid = b .new; is = b .is ∙ sym (a .is) ∙ ap (tileOf u′) (sym e) ∙ s .is })
+    (λ n.
+    let o = a .only (s .at) (s .solid) n in
+    let q = p (tileOf u (s .at)) .0 (shows u (s .at) o) in
+    let (m, c) = b .kept (q .at) (q .solid) in
+    record { at = q .at; solid = m; is = c ∙ q .is ∙ sym (a .kept (s .at) o .1) ∙ s .is })
+
+adds-picture : (u v u′ v′ : List ℤ) (i j : ℕ) (w : Tile) → SamePicture u v → Adds u u′ i w → Adds v v′ j w → SamePicture u′ v′
+adds-picture u v u′ v′ i j w p a b z =
+    (adds-there u v u′ v′ i j w p a b z, adds-there v u v′ u′ j i w (picture-turned u v p) b a z)
+
+pub edited-fit : (t t′ : List ℤ) → Fit t → Edited t t′ → Fit t′
+edited-fit t t′ f e =
+    let s = f .size in
+    let l = e .size in
+    record { size = record { whole = omega arith; least = omega arith; most = omega arith }; sound = e .sound }
+
+-- ---- creates on two tables of one picture
+
+pub record Alike (u v : List ℤ) : Type 0 where
+  pub left : Fit u
+  pub right : Fit v
+  pub size : length u ≡ length v
+  pub picture : SamePicture u v
+
+pub alike-self : (t : List ℤ) → Fit t → Alike t t
+alike-self t f = record { left = f; right = f; size = refl; picture = λ w. (λ s. s, λ s. s) }
+
+pub alike-turned : (u v : List ℤ) → Alike u v → Alike v u
+alike-turned u v l = record { left = l .right; right = l .left; size = sym (l .size); picture = picture-turned u v (l .picture) }
+
+met-there : (u v : List ℤ) → SamePicture u v → (A : Area) → Met u A → Met v A
+met-there u v p A m =
+    let f = m .first in
+    let s = p (tileOf u (m .i)) .0 (shows u (m .i) (f .solid)) in
+    record {
+      x = m .x;
+      y = m .y;
+      i = s .at;
+      first =
+          record {
+            inside = f .inside;
+            solid = s .solid;
+            has = subst (λ w. Has w (m .x) (m .y)) (sym (s .is)) (f .has);
+            none-before = λ x y a b k o h.
+                let q = p (tileOf v k) .1 (shows v k o) in
+                f .none-before x y a b (q .at) (q .solid) (subst (λ w. Has w x y) (sym (q .is)) h);
+          };
+    }
+
+full-there : (u v : List ℤ) → Alike u v → solidsIn u ≡ capacity (recordsOf u) → solidsIn v ≡ capacity (recordsOf v)
+full-there u v l e = sym (picture-count u v (l .left) (l .right) (l .picture)) ∙ e ∙ ap (λ n. capacity (n / WIDTH)) (l .size)
+
+-- the same number, and after DONE the same picture again
+pub record GoAlike (u′ v′ : List ℤ) (a b : Answer) : Type 0 where
+  pub number : a .number ≡ b .number
+  pub done : a .number ≡ pos DONE → Alike u′ v′
+
+module _ (u v : List ℤ) (A : Area) (label : ℕ) (u′ v′ : List ℤ) (a b : Answer) where
+  both-refused : (n i j : ℕ) → n ≢ DONE → a ≡ answered n i → b ≡ answered n j → GoAlike u′ v′ a b
+  both-refused n i j d p q = record { number = number-is p ∙ sym (number-is q); done = λ h. absurd (not-done p d h) }
+
+  both-created : Alike u v → Created u A label u′ a → Created v A label v′ b → GoAlike u′ v′ a b
+  both-created l p q =
+      record {
+        number = number-is (p .is) ∙ sym (number-is (q .is));
+        done = λ h.
+            record {
+              left = edited-fit u u′ (l .left) (p .edited);
+              right = edited-fit v v′ (l .right) (q .edited);
+              size = p .edited .size ∙ l .size ∙ sym (q .edited .size);
+              picture = adds-picture u v u′ v′ (p .at) (q .at) (drawn A label) (l .picture) (p .adds) (q .adds);
+            };
+      }
+
+  pub create-alike : Alike u v → CreateSays u A label u′ a → CreateSays v A label v′ b → GoAlike u′ v′ a b
+  create-alike l p q =
+      same (λ r s. both-refused RECT 0 0 (λ e. omega arith) (r .0) (s .0))
+      (same (λ r s. both-refused LABEL 0 0 (λ e. omega arith) (r .0) (s .0))
+      (both (met-there u v (l .picture) A) (met-there v u (picture-turned u v (l .picture)) A)
+      (λ r s. both-refused OCCUPIED (r .0 .met .i) (s .0 .met .i) (λ e. omega arith) (r .0 .is) (s .0 .is))
+      (both (full-there u v l) (full-there v u (alike-turned u v l)) (λ r s. both-refused FULL 0 0 (λ e. omega arith) (r .0) (s .0)) (both-created l))))
+      (create-checked u A label u′ a (l .left) p) (create-checked v A label v′ b (l .right) q)
+
+-- ---- two answers to one create
+
+-- every solid of t stands in u at its record number
+abbrev pub Keeps : List ℤ → List ℤ → Type 0
+Keeps t u = (i : ℕ) → SolidIn t i → SolidIn u i × (tileOf u i ≡ tileOf t i)
+
+pub record CreateDone (t u v : List ℤ) : Type 0 where
+  pub picture : SamePicture u v
+  pub tiles : SameTiles u v
+  pub kept : Keeps t u
+  pub kept-too : Keeps t v
+
+pub record CreateAgrees (t u v : List ℤ) (a b : Answer) : Type 0 where
+  pub number : a .number ≡ b .number
+  pub refused : a .number ≢ pos DONE → (a ≡ b) × (u ≡ v)
+  pub done : a .number ≡ pos DONE → CreateDone t u v
+
+module _ (t : List ℤ) (A : Area) (label : ℕ) (u v : List ℤ) (a b : Answer) where
+  refused-same : (n i j : ℕ) → n ≢ DONE → a ≡ answered n i → b ≡ answered n j → i ≡ j → u ≡ t → v ≡ t → CreateAgrees t u v a b
+  refused-same n i j d p q e w z =
+      record {
+        number = number-is p ∙ sym (number-is q);
+        refused = λ h. (p ∙ ap (answered n) e ∙ sym q, join w z);
+        done = λ h. absurd (not-done p d h);
+      }
+
+  unfit-same : Unfit t a × (u ≡ t) → Unfit t b × (v ≡ t) → CreateAgrees t u v a b
+  unfit-same p q =
+      let e = unfit-agrees t a b (p .0) (q .0) in
+      record { number = ap (λ a. a .number) e; refused = λ h. (e, join (p .1) (q .1)); done = λ h. absurd (unfit-not-done t a (p .0) h) }
+
+  created-same : Fit t → Created t A label u a → Created t A label v b → CreateAgrees t u v a b
+  created-same f p q =
+      let w : SamePicture u v = adds-picture t t u v (p .at) (q .at) (drawn A label) (alike-self t f .picture) (p .adds) (q .adds) in
+      record {
+        number = number-is (p .is) ∙ sym (number-is (q .is));
+        refused = λ h. absurd (h (number-is (p .is)));
+        done = λ h.
+            record {
+              picture = w;
+              tiles = space-agrees u v (edited-fit t u f (p .edited)) (edited-fit t v f (q .edited)) w;
+              kept = p .adds .kept;
+              kept-too = q .adds .kept;
+            };
+      }
+
+  occupied-same : Fit t → Occupied t A a × (u ≡ t) → Occupied t A b × (v ≡ t) → CreateAgrees t u v a b
+  occupied-same f p q =
+      let m = p .0 .met in
+      let n = q .0 .met in
+      let s = first-one t (fit-forms t f) A (m .x) (m .y) (m .i) (n .x) (n .y) (n .i) (m .first) (n .first) in
+      refused-same OCCUPIED (m .i) (n .i) (λ e. omega arith) (p .0 .is) (q .0 .is) (s .number) (p .1) (q .1)
+
+  zero-same : (n : ℕ) → n ≢ DONE → (a ≡ refused n) × (u ≡ t) → (b ≡ refused n) × (v ≡ t) → CreateAgrees t u v a b
+  zero-same n d p q = refused-same n 0 0 d (p .0) (q .0) refl (p .1) (q .1)
+
+  pub create-agrees : CreateSays t A label u a → CreateSays t A label v b → CreateAgrees t u v a b
+  create-agrees p q =
+      same unfit-same
+      (λ r s. same (zero-same RECT (λ e. omega arith))
+      (same (zero-same LABEL (λ e. omega arith)) (same (occupied-same (r .0)) (same (zero-same FULL (λ e. omega arith)) (created-same (r .0))))) (r .1) (s .1))
+      (create-order t A label u a p) (create-order t A label v b q)

@@ -1,0 +1,161 @@
+-- Two answers that load's promise allows agree, but for the records of solids and of space tiles. Assumes nothing.
+use mathlib.Core.Path.{_≡_, refl, sym, subst}
+use mathlib.Core.Logic.{_≢_}
+use mathlib.Core.List.{List}
+use Prim.Native.Nat.{ℕ, _/_, _%_, _≤_, _<_}
+use native.Mathlib.Omega.{arith}
+use lib.IntN.{ℤ, pos}
+use lib.ListN.{length}
+use Rattle.geometry.specs.Cases.{lt-cases, eq-cases}
+use Rattle.table.specs.Sound.{SizeRight}
+use Rattle.table.specs.Fresh.{freshTable}
+use Rattle.table.specs.FreshSound.{fresh-length, fresh-sound}
+use Rattle.layout.specs.Bytes.{savedAt}
+use Rattle.ushanderi.specs.Answers.{DONE, SIZE, FILE, answered, accepted, refused}
+use Rattle.ushanderi.specs.declared.answer.Answer.{Answer}
+use Rattle.ushanderi.specs.Promises.{Fit, CreateSays, areaIn, Built, LoadSays}
+use Rattle.claims.specs.AgreeChecks.{Then, stops, goes, same, join, number-is, not-done}
+use Rattle.claims.specs.AgreePicture.{SamePicture, SameTiles, space-agrees}
+use Rattle.claims.specs.AgreeCreate.{Alike, alike-self, create-alike}
+
+-- a fresh plane of the right size is fit
+pub fresh-fit : (t : List ℤ) → SizeRight t → Fit (freshTable (length t))
+fresh-fit t s =
+    let l : length (freshTable (length t)) ≡ length t = fresh-length (length t) (omega (arith, s .least)) in
+    record {
+      size = record { whole = omega (arith, s .whole); least = omega (arith, s .least); most = omega (arith, s .most) };
+      sound = fresh-sound (length t) (omega (arith, s .least)) (s .most);
+    }
+
+module _ (t : List ℤ) (s : SizeRight t) (bs : List ℕ) where
+  -- the same records of a file make the same picture
+  built-alike : (m n : ℕ) (u v : List ℤ) → m ≡ n → Built (length t) bs m u → Built (length t) bs n v → Alike u v
+  built-alike m n u v e Built.none Built.none = alike-self (freshTable (length t)) (fresh-fit t s)
+  built-alike m n u v e Built.none (Built.more {n = k} b j c) = absurd (omega arith)
+  built-alike m n u v e (Built.more {n = k} b j c) Built.none = absurd (omega arith)
+  built-alike m n u v e (Built.more {n = k} {u = w} b i c) (Built.more {n = l} {u = z} d j g) =
+      let q : l ≡ k = omega arith in
+      let h = built-alike k l w z (sym q) b d in
+      let g′ : CreateSays z (areaIn bs k) (savedAt bs k .label) v (accepted j) =
+      subst (λ n. CreateSays z (areaIn bs n) (savedAt bs n .label) v (accepted j)) q g in
+      create-alike w z (areaIn bs k) (savedAt bs k .label) u v (accepted i) (accepted j) h c g′ .done refl
+
+  pub built-fit : (n : ℕ) (u : List ℤ) → Built (length t) bs n u → Fit u
+  built-fit n u b = built-alike n n u u refl b b .left
+
+  -- the create for record m, among the first n
+  record Step (m : ℕ) : Type 0 where
+    before : List ℤ
+    built : Built (length t) bs m before
+    after : List ℤ
+    at : ℕ
+    says : CreateSays before (areaIn bs m) (savedAt bs m .label) after (accepted at)
+
+  step-of : (n : ℕ) (u : List ℤ) → Built (length t) bs n u → (m : ℕ) → m < n → Step m
+  step-of n u Built.none m h = absurd (omega arith)
+  step-of n u (Built.more {n = k} {u = w} {u′ = z} b i c) m h = eq-cases m k
+      (λ e. subst Step (sym e) (record { before = w; built = b; after = u; at = i; says = c }))
+      (λ d. step-of k w b m (omega arith))
+
+  -- a record at which the load is refused
+  record Stop (n number : ℕ) : Type 0 where
+    before : List ℤ
+    built : Built (length t) bs n before
+    after : List ℤ
+    value : ℕ
+    says : CreateSays before (areaIn bs n) (savedAt bs n .label) after (answered number value)
+    refused-by : number ≢ DONE
+
+  no-step : (n number : ℕ) → Stop n number → Step n → ⊥
+  no-step n number p q =
+      let l = built-alike n n (p .before) (q .before) refl (p .built) (q .built) in
+      let e = create-alike (p .before) (q .before) (areaIn bs n) (savedAt bs n .label) (p .after) (q .after) (answered number (p .value)) (accepted (q .at)) l
+      (p .says) (q .says) .number in
+      let d : number ≡ DONE = cc in
+      p .refused-by d
+
+  stop-number : (n c d : ℕ) → Stop n c → Stop n d → c ≡ d
+  stop-number n c d p q =
+      let l = built-alike n n (p .before) (q .before) refl (p .built) (q .built) in
+      let e = create-alike (p .before) (q .before) (areaIn bs n) (savedAt bs n .label) (p .after) (q .after) (answered c (p .value)) (answered d (q .value)) l
+      (p .says) (q .says) .number in
+      cc
+
+  stop-before : (m n c d : ℕ) → Stop m c → Stop n d → n ≤ m
+  stop-before m n c d p q = lt-cases m n (λ h. absurd (no-step m c p (step-of n (q .before) (q .built) m h))) (λ h. h)
+
+  stop-one : (m n c d : ℕ) → Stop m c → Stop n d → (m ≡ n) × (c ≡ d)
+  stop-one m n c d p q =
+      let e : n ≡ m = omega (arith, stop-before m n c d p q, stop-before n m d c q p) in
+      (sym e, stop-number m c d p (subst (λ n. Stop n d) e q))
+
+-- ---- two answers to one load
+
+pub record LoadDone (u v : List ℤ) : Type 0 where
+  pub picture : SamePicture u v
+  pub tiles : SameTiles u v
+
+pub record LoadAgrees (u v : List ℤ) (a b : Answer) : Type 0 where
+  pub answer : a ≡ b
+  pub refused : a .number ≢ pos DONE → u ≡ v
+  pub done : a .number ≡ pos DONE → LoadDone u v
+
+module _ (t : List ℤ) (bs : List ℕ) where
+  record Stopped (s : SizeRight t) (t′ : List ℤ) (a : Answer) : Type 0 where
+    n : ℕ
+    number : ℕ
+    below : n < length bs / 20
+    stop : Stop t s bs n number
+    is : a ≡ answered number n
+    fresh : t′ ≡ freshTable (length t)
+
+  data Ended (s : SizeRight t) (t′ : List ℤ) (a : Answer) : Type 0 where
+    stopped : Stopped s t′ a → Ended s t′ a
+    done : Built (length t) bs (length bs / 20) t′ → a ≡ accepted (length bs / 20) → Ended s t′ a
+
+  abbrev Checked : List ℤ → Answer → Type 0
+  Checked t′ a =
+      Then (SizeRight t → ⊥) ((a ≡ refused SIZE) × (t′ ≡ t))
+      (SizeRight t × Then (length bs % 20 ≢ 0) ((a ≡ refused FILE) × (t′ ≡ t)) ((s : SizeRight t) → Ended s t′ a))
+
+  load-order : (t′ : List ℤ) (a : Answer) → LoadSays t bs t′ a → Checked t′ a
+  load-order t′ a (LoadSays.size n e w) = stops n (e, w)
+  load-order t′ a (LoadSays.file s n e w) = goes (λ m. m s) (s, stops n (e, w))
+  load-order t′ a (LoadSays.record-refused s z n c i u u′ h b k d e w) =
+      goes (λ m. m s) (
+        s,
+        goes (λ m. m z) (λ r. stopped (record {
+          n = n;
+          number = c;
+          below = h;
+          stop = record { before = u; built = b; after = u′; value = i; says = k; refused-by = d };
+          is = e;
+          fresh = w;
+        })),
+      )
+  load-order t′ a (LoadSays.done s z b e) = goes (λ m. m s) (s, goes (λ m. m z) (λ r. done b e))
+
+  module _ (u v : List ℤ) (a b : Answer) where
+    refused-same : (n i : ℕ) (w : List ℤ) → n ≢ DONE → (a ≡ answered n i) × (u ≡ w) → (b ≡ answered n i) × (v ≡ w) → LoadAgrees u v a b
+    refused-same n i w d p q = record { answer = join (p .0) (q .0); refused = λ h. join (p .1) (q .1); done = λ h. absurd (not-done (p .0) d h) }
+
+    ended-same : (s : SizeRight t) → Ended s u a → Ended s v b → LoadAgrees u v a b
+    ended-same s (stopped p) (stopped q) =
+        let (e, d) = stop-one t s bs (q .n) (p .n) (q .number) (p .number) (q .stop) (p .stop) in
+        refused-same (p .number) (p .n) (freshTable (length t)) (p .stop .refused-by) (p .is, p .fresh)
+        (subst (λ n. b ≡ answered (p .number) n) e (subst (λ c. b ≡ answered c (q .n)) d (q .is)), q .fresh)
+    ended-same s (stopped p) (done c e) = absurd (no-step t s bs (p .n) (p .number) (p .stop) (step-of t s bs (length bs / 20) v c (p .n) (p .below)))
+    ended-same s (done c e) (stopped q) = absurd (no-step t s bs (q .n) (q .number) (q .stop) (step-of t s bs (length bs / 20) u c (q .n) (q .below)))
+    ended-same s (done c e) (done d g) =
+        let l = built-alike t s bs (length bs / 20) (length bs / 20) u v refl c d in
+        record {
+          answer = join e g;
+          refused = λ h. absurd (h (number-is e));
+          done = λ h. record { picture = l .picture; tiles = space-agrees u v (l .left) (l .right) (l .picture) };
+        }
+
+    pub load-agrees : LoadSays t bs u a → LoadSays t bs v b → LoadAgrees u v a b
+    load-agrees p q =
+        same (refused-same SIZE 0 t (λ e. omega arith))
+        (λ r s. same (refused-same FILE 0 t (λ e. omega arith)) (λ h k. ended-same (r .0) (h (r .0)) (k (r .0))) (r .1) (s .1))
+        (load-order u a p) (load-order v b q)

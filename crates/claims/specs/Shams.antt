@@ -1,0 +1,158 @@
+-- Sham programs that the promises shut out: what each of them would answer, or leave in the table, is allowed by no promise. Assumes nothing.
+use mathlib.Core.Path.{_≡_, refl, sym, ap, subst}
+use mathlib.Core.Logic.{_≢_}
+use mathlib.Core.List.{List, _∷_, List·Memᴰ·head, List·Memᴰ·tail}
+use Prim.Native.Nat.{ℕ, _≤_, _<_}
+use native.Mathlib.Omega.{arith}
+use lib.IntN.{ℤ, pos, negsuc}
+use lib.ListN.{length}
+use Rattle.ruler.specs.Ruler.{ruler}
+use Rattle.geometry.specs.Cases.{lt-cases}
+use Rattle.geometry.specs.Picture.{ZERO, InPlane, Tile, Has}
+use Rattle.geometry.specs.Tiling.{one-holder}
+use Rattle.table.specs.Words.{recordsOf, tileOf}
+use Rattle.table.specs.Sound.{SizeRight, capacity, solidsIn}
+use Rattle.seek.specs.Meaning.{SolidIn, Area, InArea, RectRight, FreeArea, Directed}
+use Rattle.seek.specs.Find.{Finds}
+use Rattle.ushanderi.specs.Answers.{DONE, SIZE, UNSOUND, RECT, SHORT, answered, accepted, nothing}
+use Rattle.ushanderi.specs.declared.answer.Answer.{Answer}
+use Rattle.ushanderi.specs.Promises.{Unfit, Fit, FreshSays, CheckSays, FindSays, listed, SearchSays, EnumerateSays, CreateSays, DeleteSays}
+use Rattle.claims.specs.AgreeChecks.{fit-forms, not-fit, number-is}
+use Rattle.claims.specs.AgreePicture.{Shows}
+use Rattle.claims.specs.AgreeReads.{check-agrees, enumerate-agrees}
+use Rattle.claims.specs.History.{Among, Distinct, History}
+use Rattle.claims.specs.HistoryCalls
+use Rattle.claims.specs.HistoryKept.{history-kept}
+use Rattle.claims.specs.Draws.{Draws, areaOf}
+use Rattle.claims.specs.Tables.{area, A, B, C}
+use Rattle.claims.specs.Allowed.{Created, find-is, search-free, creates, deletes}
+use Rattle.claims.specs.Examples.{ABC}
+use Rattle.claims.specs.ExamplesHold.{second-done, after-A}
+
+-- any number but DONE
+abbrev Refuses : Answer → Type 0
+Refuses a = a .number ≢ pos DONE
+
+accepts : (a : Answer) (value : ℕ) → a ≡ accepted value → Refuses a → ⊥
+accepts a value e n = n (number-is e)
+
+-- ---- one that always refuses: where no check of 01 stops the call, no refusal is allowed
+
+pub record NoRefusal : Type 0 where
+  pub fresh : (t t′ : List ℤ) (a : Answer) → SizeRight t → FreshSays t t′ a → Refuses a → ⊥
+  pub check : (t : List ℤ) (a : Answer) → Fit t → CheckSays t a → Refuses a → ⊥
+  pub find : (t : List ℤ) (x y : ℕ) (a : Answer) → Fit t → InPlane x y → FindSays t x y a → Refuses a → ⊥
+  pub search : (t : List ℤ) (R : Area) (a : Answer) → Fit t → RectRight R → SearchSays t R a → Refuses a → ⊥
+  pub create : (t : List ℤ) (R : Area) (label : ℕ) (t′ : List ℤ) (a : Answer) → Fit t → RectRight R → ZERO < label → FreeArea t R
+      → solidsIn t < capacity (recordsOf t) → CreateSays t R label t′ a → Refuses a → ⊥
+  pub delete : (t : List ℤ) (x y i : ℕ) (t′ : List ℤ) (a : Answer) → Fit t → Finds t x y i → SolidIn t i → DeleteSays t x y t′ a → Refuses a → ⊥
+
+no-refused-fresh : (t t′ : List ℤ) (a : Answer) → SizeRight t → FreshSays t t′ a → Refuses a → ⊥
+no-refused-fresh t t′ a s (FreshSays.size n e w) r = n s
+no-refused-fresh t t′ a s (FreshSays.done z e w) r = accepts a 0 e r
+
+no-refused-find : (t : List ℤ) (x y : ℕ) (a : Answer) → Fit t → InPlane x y → FindSays t x y a → Refuses a → ⊥
+no-refused-find t x y a f p s r =
+    let h = one-holder (recordsOf t) (tileOf t) (fit-forms t f .widest) x y p in
+    accepts a (h .number) (find-is t f x y (h .number) a (record { used = h .used; has = h .has }) s) r
+
+no-refused-search : (t : List ℤ) (R : Area) (a : Answer) → Fit t → RectRight R → SearchSays t R a → Refuses a → ⊥
+no-refused-search t R a f q (SearchSays.unfit u) r = not-fit t a u f
+no-refused-search t R a f q (SearchSays.rect g n e) r = n q
+no-refused-search t R a f q (SearchSays.free g p h e) r = r (ap (λ a. a .number) e)
+no-refused-search t R a f q (SearchSays.met g p x y i h e) r = accepts a i e r
+
+pub no-refusal : NoRefusal
+no-refusal = record {
+  fresh = no-refused-fresh;
+  check = λ t a f s r. accepts a (solidsIn t) (check-agrees t a (accepted (solidsIn t)) s (CheckSays.done f refl)) r;
+  find = no-refused-find;
+  search = no-refused-search;
+  create = λ t R label t′ a f p l h n s r. let c = creates t f R label p l t′ a h n s in accepts a (c .at) (c .is) r;
+  delete = λ t x y i t′ a f h o s r. accepts a _ (deletes t f x y i h t′ a o s .is) r;
+}
+
+-- as with A, B and C at (9, 9)
+pub no-refusal-abc : (t : List ℤ) → Draws t ABC → (a : Answer) → FindSays t (ruler (pos 9)) (ruler (pos 9)) a → Refuses a → ⊥
+unfolding ruler
+no-refusal-abc t d a s r = no-refused-find t (ruler (pos 9)) (ruler (pos 9)) a (d .fit) (omega arith) s r
+
+-- ---- one that always answers "free"
+
+negative : (n value : ℕ) → nothing ≡ answered n value → ⊥
+negative n value e =
+    let z : negsuc 0 ≡ pos value = ap (λ a. a .value) e in
+    let o : _≡_ {A = ℕ} 0 1 = cc in
+    omega arith
+
+-- where a solid holds a cell of the rectangle, the answer is not "free"
+pub not-free : (t : List ℤ) (R : Area) (x y i : ℕ) → InArea R x y → SolidIn t i → Has (tileOf t i) x y → SearchSays t R nothing → ⊥
+not-free t R x y i h s p (SearchSays.unfit (Unfit.size n e)) = negative SIZE 0 e
+not-free t R x y i h s p (SearchSays.unfit (Unfit.unsound z n e)) = negative UNSOUND 0 e
+not-free t R x y i h s p (SearchSays.rect g n e) = negative RECT 0 e
+not-free t R x y i h s p (SearchSays.free g q o e) = o x y h i s p
+not-free t R x y i h s p (SearchSays.met g q x′ y′ j o e) = negative DONE j e
+
+-- as with A, B and C in 5 0 25 20, where C stands
+pub not-free-abc : (t : List ℤ) → Draws t ABC → SearchSays t (area (pos 5) (pos 0) (pos 25) (pos 20)) nothing → ⊥
+unfolding ruler
+not-free-abc t d =
+    let s = d .all C (List·Memᴰ·tail (List·Memᴰ·tail (List·Memᴰ·head refl))) in
+    let h : Has C (ruler (pos 5)) (ruler (pos 15)) = omega arith in
+    not-free t (area (pos 5) (pos 0) (pos 25) (pos 20)) (ruler (pos 5)) (ruler (pos 15)) (s .at) (omega arith) (s .solid)
+    (subst (λ v. Has v (ruler (pos 5)) (ruler (pos 15))) (sym (s .is)) h)
+
+-- and where no solid does, it is nothing else: so one that never answers "free" is shut out too
+pub but-free : (t : List ℤ) (R : Area) (a : Answer) → Fit t → RectRight R → FreeArea t R → SearchSays t R a → a ≢ nothing → ⊥
+but-free t R a f r h s n = n (search-free t f R a r h s)
+
+-- ---- one whose create, or delete, writes nothing
+
+pub create-writes : (t : List ℤ) (R : Area) (label : ℕ) (t′ : List ℤ) (a : Answer) → CreateSays t R label t′ a → a .number ≡ pos DONE → t′ ≡ t → ⊥
+create-writes t R label t′ a c e w =
+    let d = HistoryCalls.create-done t R label t′ a c e in
+    d .adds .was-none (subst (λ t. SolidIn t (d .at)) w (d .adds .new))
+
+pub delete-writes : (t : List ℤ) (x y : ℕ) (t′ : List ℤ) (a : Answer) → DeleteSays t x y t′ a → a .number ≡ pos DONE → t′ ≡ t → ⊥
+delete-writes t x y t′ a c e w =
+    let d = HistoryCalls.delete-done t x y t′ a c e in
+    d .removes .only (d .at) (subst (λ t. SolidIn t (d .at)) (sym w) (d .solid)) .1 refl
+
+-- ---- one whose second and later calls write nothing
+
+created-writes : (t : List ℤ) (R : Area) (label : ℕ) (t′ : List ℤ) (a : Answer) → CreateSays t R label t′ a → Created t R label t′ a → t′ ≡ t → ⊥
+created-writes t R label t′ a s c w = create-writes t R label t′ a s (number-is (c .is)) w
+
+-- A and then B on a fresh plane that takes both: whatever the second call answers, it has written
+pub second-writes : (t t₀ t₁ t₂ : List ℤ) (a₀ a₁ a₂ : Answer) → SizeRight t → 2 ≤ capacity (recordsOf t) → FreshSays t t₀ a₀
+    → CreateSays t₀ (areaOf A) (A .label) t₁ a₁ → CreateSays t₁ (areaOf B) (B .label) t₂ a₂ → t₂ ≡ t₁ → ⊥
+second-writes t t₀ t₁ t₂ a₀ a₁ a₂ z n f s₁ s₂ w =
+    let o = after-A t t₀ t₁ a₀ a₁ z f s₁ in
+    let r = o .records in
+    created-writes t₁ (areaOf B) (B .label) t₂ a₂ s₂ (second-done t₁ (o .draws) (omega arith) t₂ a₂ s₂) w
+
+-- over any history: a table that still draws the earlier account is not the table after one accepted create more
+pub later-writes : (t : List ℤ) (v : Tile) (S : List Tile) → History t (v ∷ S) → Draws t S → ⊥
+later-writes t v S h d = fresh-one (history-kept h .once) (subst (Among S) (s .is) (d .each (s .at) (s .solid)))
+  where
+    s : Shows t v
+    s = history-kept h .solids v .0 (List·Memᴰ·head refl)
+
+    fresh-one : Distinct (v ∷ S) → Among S v → ⊥
+    fresh-one (Distinct.more n o) m = n m
+
+-- ---- one that invents the enumeration count
+
+module _ (t : List ℤ) (R : Area) (f : Fit t) (r : RectRight R) (ks : List ℕ) (d : Directed t R ks) (out out′ : List ℤ) where
+  -- the count is that of the directed order, for a list that is long enough and for one that is too short
+  pub count-fixed : (number count : ℕ) → EnumerateSays t R out out′ (answered number count) → count ≡ length ks
+  count-fixed number count s =
+      lt-cases (length out) (length ks)
+      (λ h. one-value (enumerate-agrees t R out out′ out (answered number count) (answered SHORT (length ks)) s (EnumerateSays.short f r ks d h refl refl) .0))
+      (λ h. one-value (enumerate-agrees t R out out′ (listed ks out) (answered number count) (accepted (length ks)) s (EnumerateSays.done f r ks d h refl refl) .0))
+    where
+      one-value : {m n k : ℕ} → answered number m ≡ answered n k → m ≡ k
+      one-value {m} {n} {k} e = let z : pos m ≡ pos k = ap (λ a. a .value) e in cc
+
+  pub not-invented : (number count : ℕ) → count ≢ length ks → EnumerateSays t R out out′ (answered number count) → ⊥
+  not-invented number count n s = n (count-fixed number count s)

@@ -1,0 +1,110 @@
+-- `ushanderi::layouts::load_all` meets its contract. The loop's invariant: the creates of the records before n are done. Assumes nothing.
+use denote.Enum.Declared.{tagOf}
+use Rattle.ushanderi.proofs.editing.Created.{the-type}
+use mathlib.Core.Path.{ap}
+use Prim.Native.Nat.{_-_, _≤_}
+use native.Mathlib.Omega.{arith}
+use Rattle.ruler.specs.Ruler.{count-bits}
+use Rattle.ushanderi.specs.Editing.{created-low, create-length}
+use Rattle.ushanderi.specs.Layouts.{Loading, fresh-long, loading-none, loading-more, loading-low, load-done, load-refused, not-accepted}
+use borrow.Author.Needs.{needs}
+use Rattle.ushanderi.proofs.layouts.load_all.Statement.{statement}
+use Rattle.ushanderi.proofs.layouts.load_all.Tie as tie
+
+abbrev Inv-loop : tie.InvT-loop
+Inv-loop t₀ bytes count from₀ n₀ t from n = Loading t₀ bytes t from n × (n ≤ count)
+
+abbrev μ-loop : tie.MeasureT-loop
+μ-loop t₀ bytes count from₀ n₀ t from n = count - n
+
+fresh-requires : tie.Need-fresh-requires Inv-loop μ-loop
+fresh-requires c κs = omega (arith, c .before .before .pre .0 .least)
+
+loop-holds : tie.Need-loop-holds Inv-loop μ-loop
+loop-holds c =
+    let s = c .before .before .before .before in
+    (loading-none (s .args .t .now) _ _ (s .pre .0) (c .before .fresh .ensures), omega arith)
+
+load-one-requires : tie.Need-load-one-requires Inv-loop μ-loop
+load-one-requires c κs =
+    let l = c .before .before .loop .inv .0 in
+    (l .fit, (l .used, (l .solids, omega (arith, c .before .loop-test))))
+
+enum-known-c : tie.Need-enum-known-c Inv-loop μ-loop
+enum-known-c c = search needs
+
+fresh-requires-2 : tie.Need-fresh-requires-2 Inv-loop μ-loop
+fresh-requires-2 c κs =
+    let o = c .before .before .before in
+    let l = o .before .before .before .loop .inv .0 in
+    omega (arith, l .fit .size .least, create-length _ _ _ _ _ (o .load-one .ensures))
+
+refused-at-requires : tie.Need-refused-at-requires Inv-loop μ-loop
+refused-at-requires c κs =
+    let o = c .before .before .before .before .before in
+    (created-low _ _ _ _ _ (o .load-one .ensures), loading-low _ _ _ _ _ (o .before .before .before .loop .inv .0))
+
+same-length : tie.Need-same-length Inv-loop μ-loop
+same-length c = search needs
+
+returns : tie.Need-returns Inv-loop μ-loop
+returns c =
+    let f = c .before .before in
+    let m = f .before .before in
+    let o = m .before .before in
+    let a = o .before .before .before in
+    let g = a .before .before in
+    let s = g .before .before .before in
+    let long = fresh-long (s .args .t .now) _ (s .pre .0) (g .fresh .ensures) in
+    load-refused (s .args .t .now) _ _ _ _ _ _ _ (o .load-one .result) _ (s .pre .0) (s .pre .1) long (a .loop .inv .0) (omega (arith, o .before .before .loop-test))
+    (o .load-one .ensures) (λ k q. not-accepted (m .match .keys2) (ap (tagOf the-type) q)) (f .fresh2 .ensures) (c .refused-at .ensures)
+
+add-n : tie.Need-add-n Inv-loop μ-loop
+add-n c =
+    let a = c .before .before .before .before .before .before .before in
+    record { fits = omega (arith, loading-low _ _ _ _ _ (a .loop .inv .0)) }
+
+loop-less : tie.Need-loop-less Inv-loop μ-loop
+loop-less c = omega arith
+
+loop-again : tie.Need-loop-again Inv-loop μ-loop
+loop-again c =
+    let o = c .before .before .before .before in
+    let a = o .before .before .before in
+    (loading-more _ _ _ _ _ (a .loop .inv .0) _ _ _ (o .load-one .ensures) (c .before .c .given .1), omega (arith, o .before .before .loop-test))
+
+count-requires : tie.Need-count-requires Inv-loop μ-loop
+count-requires c κs = loading-low _ _ _ _ _ (c .before .loop .inv .0)
+
+same-length-2 : tie.Need-same-length-2 Inv-loop μ-loop
+same-length-2 c = search needs
+
+returns-2 : tie.Need-returns-2 Inv-loop μ-loop
+returns-2 c =
+    let a = c .before .before in
+    let g = a .before .before in
+    let s = g .before .before .before in
+    let long = fresh-long (s .args .t .now) _ (s .pre .0) (g .fresh .ensures) in
+    let b = count-bits _ (c .count .result) (c .count .ensures) (count-requires (c .before) _) in
+    rw b (load-done _ _ _ _ _ (a .loop .inv .0) _ (s .pre .0) (s .pre .1) long (omega (arith, a .loop .inv .1)))
+
+pub load-all-spec : {M : Type 1} → statement M
+load-all-spec =
+    tie.close
+    (tie.spec
+    Inv-loop
+    μ-loop
+    fresh-requires
+    loop-holds
+    load-one-requires
+    enum-known-c
+    fresh-requires-2
+    refused-at-requires
+    same-length
+    returns
+    add-n
+    loop-less
+    loop-again
+    count-requires
+    same-length-2
+    returns-2)

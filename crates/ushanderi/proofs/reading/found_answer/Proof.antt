@@ -1,0 +1,53 @@
+-- `ushanderi::reading::found_answer` meets its contract, case by case. Assumes nothing.
+use mathlib.Core.Path.{sym, ap, _∙_}
+use lib.IntN.{pos}
+use Rattle.ruler.specs.Ruler.{count-bits}
+use Rattle.ushanderi.specs.Answers.{DONE}
+use Rattle.ushanderi.specs.Reading.{foundAnswer}
+use borrow.Author.Needs.{needs}
+use Rattle.ushanderi.proofs.reading.found_answer.Statement.{statement}
+use Rattle.ushanderi.proofs.reading.found_answer.Tie as tie
+
+enum-known-f : tie.Need-enum-known-f
+enum-known-f c = search needs
+
+count-requires : tie.Need-count-requires
+count-requires c κs = c .before .before .before .pre _ (c .before .f .given .1)
+
+enum-told : tie.Need-enum-told
+enum-told c = search needs
+
+enum-told-2 : tie.Need-enum-told-2
+enum-told-2 c = search needs
+
+enum-told-3 : tie.Need-enum-told-3
+enum-told-3 c = search needs
+
+returns : tie.Need-returns
+returns c =
+    let f = c .before .before .f .given in
+    let b = count-bits (f .0 .0) (c .count .result) (c .count .ensures) (count-requires (c .before) _) in
+    ap (λ z. record { number = pos DONE; value = z }) b ∙ sym (ap foundAnswer (f .1))
+
+returns-2 : tie.Need-returns-2
+returns-2 c = sym (ap foundAnswer (c .enum-told .given .1))
+
+returns-3 : tie.Need-returns-3
+returns-3 c = sym (ap foundAnswer (c .enum-told2 .given .1))
+
+returns-4 : tie.Need-returns-4
+returns-4 c = sym (ap foundAnswer (c .enum-told3 .given .1))
+
+pub found-answer-spec : {M : Type 1} → statement M
+found-answer-spec =
+    tie.close
+    (tie.spec
+    enum-known-f
+    count-requires
+    enum-told
+    enum-told-2
+    enum-told-3
+    returns
+    returns-2
+    returns-3
+    returns-4)

@@ -1,0 +1,54 @@
+-- `ushanderi::reading::search_in` meets its contract, case by case. Assumes nothing.
+use mathlib.Core.Path.{ap, subst}
+use Rattle.ruler.specs.Ruler.{count-bits}
+use Rattle.ushanderi.specs.Promises.{SearchSays}
+use Rattle.ushanderi.specs.Reading.{fit-forms}
+use Rattle.ushanderi.specs.ReadingAreas.{seenAnswer, searches-says, searches-low}
+use borrow.Author.Needs.{needs}
+use Rattle.ushanderi.proofs.reading.search_in.Statement.{statement}
+use Rattle.ushanderi.proofs.reading.search_in.Tie as tie
+
+first-used-requires : tie.Need-first-used-requires
+first-used-requires c κs = fit-forms _ (c .pre .0)
+
+search-requires : tie.Need-search-requires
+search-requires c κs =
+    let s = c .before in
+    (fit-forms _ (s .pre .0), (s .pre .0 .size, (c .first-used .ensures .used, s .pre .1)))
+
+enum-told : tie.Need-enum-told
+enum-told c = search needs
+
+enum-known-s : tie.Need-enum-known-s
+enum-known-s c = search needs
+
+count-requires : tie.Need-count-requires
+count-requires c κs =
+    let r = c .before .before .before in
+    searches-low _ _ _ _ _ _ (r .before .before .pre .0 .size) (r .search .ensures) (c .before .s .given .1)
+
+returns : tie.Need-returns
+returns c =
+    let r = c .before .before in
+    let s = r .before .before in
+    subst (SearchSays _ _) (ap seenAnswer (c .enum-told .given .1)) (searches-says _ _ _ (s .pre .0) (s .pre .1) (r .search .ensures))
+
+returns-2 : tie.Need-returns-2
+returns-2 c =
+    let k = c .before .before in
+    let r = k .before .before in
+    let s = r .before .before in
+    let b = count-bits _ (c .count .result) (c .count .ensures) (count-requires (c .before) _) in
+    rw b (subst (SearchSays _ _) (ap seenAnswer (k .s .given .1)) (searches-says _ _ _ (s .pre .0) (s .pre .1) (r .search .ensures)))
+
+pub search-in-spec : {M : Type 1} → statement M
+search-in-spec =
+    tie.close
+    (tie.spec
+    first-used-requires
+    search-requires
+    enum-told
+    enum-known-s
+    count-requires
+    returns
+    returns-2)

@@ -1,0 +1,129 @@
+// The calls on saved layouts: save and load.
+ghost use mathlib.Core.Path.{_≡_};
+ghost use Prim.Native.Nat.{_+_, _*_, _%_, _≤_, _<_, _^_};
+ghost use lib.ListN.{length};
+ghost use Rattle.table.specs.Sound.{SizeRight, UsedIn, solidsIn};
+ghost use Rattle.layout.specs.Bytes.{savedAt};
+ghost use Rattle.ushanderi.specs.Promises.{Fit, CreateSays, SaveSays, LoadSays, areaIn};
+ghost use Rattle.ushanderi.specs.Editing.{createdAnswer, LowCreated};
+ghost use Rattle.ushanderi.specs.Layouts.{refusedAt};
+use crate::answer::Answer;
+use crate::answer::DONE;
+use crate::answer::FILE;
+use crate::answer::SHORT;
+use crate::answer::SIZE;
+use crate::editing::Created;
+use crate::editing::create_in;
+use crate::editing::created_answer;
+use crate::entry::Entry;
+use crate::entry::admit;
+use crate::entry::entry_answer;
+use seek::Area;
+
+// The bytes of a saved record.
+const SAVED: usize = 20;
+
+// 10, then the save: the table is sound and has so many solids.
+fn save_in(t: &[i32], out: &mut [u8], solids: usize) -> Answer
+    requires { ⌜ Fit (now t) ⌝ }
+    requires { ⌜ solids ≡ solidsIn (now t) ⌝ }
+    ensures { λ r. ⌜ SaveSays (now (t .entry)) (now (out .entry)) (now (out .exit)) r ⌝ }
+{
+    let need = SAVED * solids;
+    if out.len() < need {
+        return Answer {
+            number: SHORT,
+            value: ruler::count(need as u64),
+        };
+    }
+    let written = layout::save(t, out);
+    Answer {
+        number: DONE,
+        value: ruler::count(written as u64),
+    }
+}
+
+pub fn save(t: &[i32], out: &mut [u8]) -> Answer
+    ensures { λ r. ⌜ SaveSays (now (t .entry)) (now (out .entry)) (now (out .exit)) r ⌝ }
+{
+    let e = admit(t);
+    let Entry::Sound(solids) = e else {
+        return entry_answer(e);
+    };
+    save_in(t, out, solids)
+}
+
+// The create for record n of a file, on a table that holds the n records before it.
+fn load_one(t: &mut [i32], bytes: &[u8], from: usize, n: usize) -> Created
+    requires { ⌜ Fit (now t) ⌝ }
+    requires { ⌜ UsedIn (now t) from ⌝ }
+    requires { ⌜ n ≡ solidsIn (now t) ⌝ }
+    requires { ⌜ 20 * n + 20 ≤ length (now bytes) ⌝ }
+    ensures { λ r. ⌜ CreateSays (now (t .entry)) (areaIn (now (bytes .entry)) n) (savedAt (now (bytes .entry)) n .label) (now (t .exit)) (createdAnswer r) ⌝ }
+{
+    let s = layout::read_saved(bytes, n);
+    let area = Area {
+        left: s.left,
+        bottom: s.bottom,
+        right: s.right,
+        top: s.top,
+    };
+    create_in(t, from, area, s.label, n)
+}
+
+// The answer of a load that ends at record n, whose create was refused.
+fn refused_at(c: Created, n: usize) -> Answer
+    requires { ⌜ LowCreated c ⌝ }
+    requires { ⌜ n < 2 ^ 31 ⌝ }
+    ensures { λ r. ⌜ r ≡ refusedAt c n ⌝ }
+{
+    let a = created_answer(c);
+    Answer {
+        number: a.number,
+        value: ruler::count(n as u64),
+    }
+}
+
+// The creates for all records of a file, on a fresh plane; where one is refused the plane is fresh again.
+fn load_all(t: &mut [i32], bytes: &[u8]) -> Answer
+    requires { ⌜ SizeRight (now t) ⌝ }
+    requires { ⌜ length (now bytes) % 20 ≡ 0 ⌝ }
+    ensures { λ r. ⌜ LoadSays (now (t .entry)) (now (bytes .entry)) (now (t .exit)) r ⌝ }
+{
+    table::fresh(t);
+    let count = bytes.len() / SAVED;
+    let mut from: usize = 0;
+    let mut n: usize = 0;
+    while n < count {
+        let c = load_one(t, bytes, from, n);
+        let Created::At(k) = c else {
+            table::fresh(t);
+            return refused_at(c, n);
+        };
+        from = k;
+        n += 1;
+    }
+    Answer {
+        number: DONE,
+        value: ruler::count(n as u64),
+    }
+}
+
+pub fn load(t: &mut [i32], bytes: &[u8]) -> Answer
+    ensures { λ r. ⌜ LoadSays (now (t .entry)) (now (bytes .entry)) (now (t .exit)) r ⌝ }
+{
+    if table::size_right(t) {
+        if bytes.len() % SAVED != 0 {
+            return Answer {
+                number: FILE,
+                value: 0,
+            };
+        }
+        load_all(t, bytes)
+    } else {
+        Answer {
+            number: SIZE,
+            value: 0,
+        }
+    }
+}

@@ -1,0 +1,45 @@
+//! Draws a clock trunk with branches and asks what a seat asks: what is beside it, where is room, what is in the way.
+//! Run with `cargo run --example clock`.
+use ushanderi_host::plane::{Plane, Side};
+use ushanderi_host::rects::{Rect, Tile};
+use ushanderi_host::refusal::Refusal;
+
+const TRUNK: i32 = 1;
+const BRANCH: i32 = 2;
+
+fn main() -> Result<(), Refusal> {
+    let mut plane = Plane::with_room(50)?;
+    plane.create(Rect::new(0, 0, 10, 100), TRUNK)?;
+    for bottom in [10, 40, 70] {
+        plane.create(Rect::new(10, bottom, 60, bottom + 5), BRANCH)?;
+    }
+    println!("{} solids in a plane that takes {}", plane.solids(), plane.room());
+
+    println!("right of the trunk, from the top down:");
+    for record in plane.neighbours(5, 50, Side::Right)? {
+        println!("  {}", described(&plane, record));
+    }
+    println!("in the area 20 30 80 60, in directed order:");
+    for record in plane.enumerate(Rect::new(20, 30, 80, 60))? {
+        println!("  {}", described(&plane, record));
+    }
+    for area in [Rect::new(20, 50, 60, 65), Rect::new(20, 50, 60, 75)] {
+        match plane.search(area)? {
+            None => println!("{area:?} is free"),
+            Some(record) => println!("{area:?} meets {}", described(&plane, record)),
+        }
+    }
+    if let Err(refusal) = plane.create(Rect::new(50, 0, 55, 100), 3) {
+        println!("refused: {refusal}");
+    }
+    Ok(())
+}
+
+fn described(plane: &Plane, record: usize) -> String {
+    let Tile { rect, kind: _, label } = plane.tile(record).expect("an answer names a tile");
+    let Rect { left, bottom, right, top } = rect;
+    if label == 0 {
+        return format!("space {left} {bottom} {right} {top}");
+    }
+    format!("solid {left} {bottom} {right} {top}, net {label}")
+}

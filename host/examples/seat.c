@@ -1,0 +1,97 @@
+/* A seat in C: makes a plane, draws a clock trunk with branches, asks what is beside it and where is room, shows a
+ * refusal, removes a branch, and saves. Prints the same lines every time; seat.txt holds them. From the folder above:
+ *
+ *   gcc -std=c11 -Wall -Wextra -Werror -I. examples/seat.c ../target/staticlib/libushanderi.a -o ../target/seat
+ *   ../target/seat | diff - examples/seat.txt */
+#include "ushanderi.h"
+
+#include <stdio.h>
+
+enum { SOLIDS = 40, RECORDS = 4 * SOLIDS + 16, WORDS = RECORDS * USH_RECORD_WORDS, BRANCHES = 4 };
+enum { TRUNK_NET = 1, BRANCH_NET = 2 };
+
+static int32_t table[WORDS];
+static int32_t list[RECORDS];
+static uint8_t saved[SOLIDS * USH_SAVED_BYTES];
+
+static const char *const names[] = {
+    "done", "size", "unsound", "point", "rect", "label", "occupied", "full", "space", "side", "short", "file", "room",
+};
+
+/* Prints a tile by its rectangle: which record it has is the server's affair. */
+static void print_tile(int32_t record)
+{
+    ush_part part = ush_view(table, WORDS, record);
+    const int32_t *tile = table + part.at;
+    if (part.len == 0) {
+        printf("no tile\n");
+        return;
+    }
+    printf("%s %d: %d %d %d %d\n", tile[USH_WORD_KIND] == USH_KIND_SOLID ? "solid" : "space", (int)tile[USH_WORD_LABEL],
+           (int)tile[USH_WORD_LEFT], (int)tile[USH_WORD_BOTTOM], (int)tile[USH_WORD_RIGHT], (int)tile[USH_WORD_TOP]);
+}
+
+static void print_list(const char *title, ush_answer answer)
+{
+    printf("%s: %s, %d\n", title, names[answer.number], (int)answer.value);
+    for (int32_t entry = 0; answer.number == USH_DONE && entry < answer.value; entry++) {
+        printf("  ");
+        print_tile(list[entry]);
+    }
+}
+
+static void draw(int32_t left, int32_t bottom, int32_t right, int32_t top, int32_t label)
+{
+    ush_answer answer = ush_create(table, WORDS, left, bottom, right, top, label);
+    printf("create %d %d %d %d, net %d: %s\n", (int)left, (int)bottom, (int)right, (int)top, (int)label,
+           names[answer.number]);
+    if (answer.number == USH_OCCUPIED) {
+        printf("  by ");
+        print_tile(answer.value);
+    }
+}
+
+static void ask_whether_free(int32_t left, int32_t bottom, int32_t right, int32_t top)
+{
+    ush_answer answer = ush_search(table, WORDS, left, bottom, right, top);
+    printf("search %d %d %d %d: ", (int)left, (int)bottom, (int)right, (int)top);
+    if (answer.number == USH_DONE && answer.value >= 0) {
+        print_tile(answer.value);
+        return;
+    }
+    printf("%s\n", answer.number == USH_DONE ? "free" : names[answer.number]);
+}
+
+static void save_and_load_again(void)
+{
+    ush_answer answer = ush_save(table, WORDS, saved, 3);
+    printf("save to 3 bytes: %s, %d needed\n", names[answer.number], (int)answer.value);
+    answer = ush_save(table, WORDS, saved, sizeof saved);
+    printf("save: %s, %d bytes, the first solid begins at column %d\n", names[answer.number], (int)answer.value,
+           saved[0] | saved[1] << 8);
+    answer = ush_load(table, WORDS, saved, (size_t)answer.value);
+    printf("load: %s, %d solids\n", names[answer.number], (int)answer.value);
+}
+
+int main(void)
+{
+    ush_fresh(table, WORDS);
+    draw(100, 0, 110, 100, TRUNK_NET);
+    for (int32_t branch = 0; branch < BRANCHES; branch++) {
+        int32_t bottom = 15 + 20 * branch;
+        draw(branch % 2 ? 40 : 110, bottom, branch % 2 ? 100 : 170, bottom + 4, BRANCH_NET + branch);
+    }
+    printf("check: %d solids\n", (int)ush_check(table, WORDS).value);
+    print_list("right of the trunk", ush_neighbours(table, WORDS, 105, 50, USH_RIGHT_SIDE, list, RECORDS));
+    print_list("left of it, list too short", ush_neighbours(table, WORDS, 105, 50, USH_LEFT_SIDE, list, 2));
+    print_list("in 120 10 160 60", ush_enumerate(table, WORDS, 120, 10, 160, 60, list, RECORDS));
+    ask_whether_free(120, 20, 160, 50);
+    ask_whether_free(120, 20, 160, 60);
+    draw(150, 0, 155, 100, 9);
+    draw(150, 0, 150, 100, 9);
+    printf("delete at (160, 56): label %d\n", (int)ush_delete(table, WORDS, 160, 56).value);
+    printf("delete there again: %s\n", names[ush_delete(table, WORDS, 160, 56).number]);
+    ask_whether_free(120, 20, 160, 60);
+    save_and_load_again();
+    return 0;
+}

@@ -1,0 +1,34 @@
+//! Draws a saved layout as an SVG picture on standard output.
+//!
+//! `draw [FILE] [--stitches] [--area L B R T] [--view L B R T]` reads standard input where no file is named. Solids are
+//! coloured by their labels, space strips are faint. `--stitches` adds the stitches as small arrows, `--area` marks an
+//! area and numbers its tiles in directed order, `--view` says what part of the plane is shown.
+#![forbid(unsafe_code)]
+
+mod canvas;
+mod options;
+mod picture;
+
+use options::Options;
+use std::process::ExitCode;
+use ushanderi_host::plane::{Plane, MOST_SOLIDS};
+
+fn main() -> ExitCode {
+    match svg() {
+        Ok(svg) => {
+            print!("{svg}");
+            ExitCode::SUCCESS
+        }
+        Err(message) => {
+            eprintln!("draw: {message}");
+            ExitCode::FAILURE
+        }
+    }
+}
+
+fn svg() -> Result<String, String> {
+    let options = Options::parse(std::env::args().skip(1))?;
+    let mut plane = Plane::with_room(MOST_SOLIDS).map_err(|refusal| refusal.to_string())?;
+    plane.load(&options.bytes()?).map_err(|refusal| refusal.to_string())?;
+    picture::draw(&plane, &options)
+}

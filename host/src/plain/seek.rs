@@ -1,0 +1,155 @@
+//! Finding and listing on a sound table, by following stitches.
+use crate::rects::Rect;
+use crate::words::*;
+
+/// One side of a tile as the words that a walk along it reads.
+pub struct Side {
+    /// The stitch to the first tile along the side.
+    first: usize,
+    /// The stitch from one tile along the side to the next.
+    next: usize,
+    /// The edge by which a tile ends in the walk's direction.
+    end: usize,
+    /// Whether that edge's numbers fall along the walk.
+    falling: bool,
+}
+
+/// Right, left, top, bottom.
+pub const SIDES: [Side; 4] = [
+    Side { first: TR, next: LB, end: BOTTOM, falling: true },
+    Side { first: BL, next: RT, end: TOP, falling: false },
+    Side { first: RT, next: BL, end: LEFT, falling: true },
+    Side { first: LB, next: TR, end: RIGHT, falling: false },
+];
+
+/// A used record to begin at: the hint, if it names one.
+pub fn start(table: &[Record], hint: i32) -> usize {
+    let hinted =
+        usize::try_from(hint).ok().filter(|&place| table.get(place).is_some_and(|record| record[KIND] != FREE));
+    hinted.unwrap_or_else(|| table.iter().position(|record| record[KIND] != FREE).expect("a sound table has a tile"))
+}
+
+/// The tile that holds the cell: to its row first, then sideways one tile at a time.
+pub fn find(table: &[Record], from: usize, x: i32, y: i32) -> usize {
+    let mut at = up_to(table, from, y);
+    at = down_to(table, at, y);
+    loop {
+        if x < table[at][LEFT] {
+            at = up_to(table, table[at][BL] as usize, y);
+        } else if x >= table[at][RIGHT] {
+            at = down_to(table, table[at][TR] as usize, y);
+        } else {
+            return at;
+        }
+    }
+}
+
+fn up_to(table: &[Record], mut at: usize, y: i32) -> usize {
+    while y >= table[at][TOP] {
+        at = table[at][RT] as usize;
+    }
+    at
+}
+
+fn down_to(table: &[Record], mut at: usize, y: i32) -> usize {
+    while y < table[at][BOTTOM] {
+        at = table[at][LB] as usize;
+    }
+    at
+}
+
+/// The solid that holds the area's first occupied cell: down the area's left edge, one strip at a time.
+pub fn search(table: &[Record], from: usize, area: &Rect) -> Option<usize> {
+    let mut at = from;
+    let mut row = area.top - 1;
+    loop {
+        at = find(table, at, area.left, row);
+        let tile = &table[at];
+        if tile[KIND] == SOLID {
+            return Some(at);
+        }
+        // The tile's own tr may lie above the area, so the row asked about decides.
+        if tile[RIGHT] < area.right {
+            return Some(find(table, at, tile[RIGHT], row));
+        }
+        if tile[BOTTOM] <= area.bottom {
+            return None;
+        }
+        row = tile[BOTTOM] - 1;
+    }
+}
+
+/// Something that meets tiles one after the other, the same ones each time.
+pub trait Walk {
+    /// Visits each tile's record.
+    fn each(&self, visit: impl FnMut(usize));
+}
+
+/// The tiles along one side of a tile, in the side's order.
+pub struct Along<'a> {
+    /// A sound table.
+    pub table: &'a [Record],
+    /// The record of the tile.
+    pub tile: usize,
+    /// Which side.
+    pub side: &'a Side,
+}
+
+impl Walk for Along<'_> {
+    fn each(&self, mut visit: impl FnMut(usize)) {
+        let Along { table, tile, side } = *self;
+        let end = table[tile][side.end];
+        let mut named = table[tile][side.first];
+        while let Ok(at) = usize::try_from(named) {
+            visit(at);
+            let here = table[at][side.end];
+            if if side.falling { here <= end } else { here >= end } {
+                return;
+            }
+            named = table[at][side.next];
+        }
+    }
+}
+
+/// The tiles that share a cell with an area, in directed order.
+pub struct Listing<'a> {
+    /// A sound table.
+    pub table: &'a [Record],
+    /// Where to begin to look for the area.
+    pub from: usize,
+    /// The area.
+    pub area: Rect,
+}
+
+impl Walk for Listing<'_> {
+    fn each(&self, mut visit: impl FnMut(usize)) {
+        let Listing { table, from, area } = self;
+        let mut at = find(table, *from, area.left, area.top - 1);
+        loop {
+            self.subtree(at, &mut visit);
+            if table[at][BOTTOM] <= area.bottom {
+                return;
+            }
+            at = find(table, at, area.left, table[at][BOTTOM] - 1);
+        }
+    }
+}
+
+impl Listing<'_> {
+    fn subtree(&self, tile: usize, visit: &mut impl FnMut(usize)) {
+        visit(tile);
+        let Listing { table, area, .. } = self;
+        let [_, bottom, right, top, ..] = table[tile];
+        if right >= area.right {
+            return;
+        }
+        Along { table, tile, side: &SIDES[0] }.each(|at| {
+            // A tile cut by the area's lower edge hangs where its lowest row inside the area begins.
+            let row = table[at][BOTTOM].max(area.bottom);
+            let meets = table[at][BOTTOM] < area.top && table[at][TOP] > area.bottom;
+            if meets && bottom <= row && row < top {
+                self.subtree(at, visit);
+            }
+        });
+    }
+}

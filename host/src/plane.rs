@@ -1,0 +1,265 @@
+//! A plane that owns its table. Its words cannot be reached from outside but through the server's own calls, so the
+//! table is sound at all times, and the refusals for size and soundness are met only where words come in.
+use crate::answers::SAVED_BYTES;
+use crate::calls;
+use crate::rects::{Rect, Tile};
+use crate::refusal::{LoadRefusal, Refusal};
+use crate::words::{most_solids, records_for, FREE, KIND, MOST_RECORDS, NO_TILE, RECORD_WORDS, STITCHES};
+
+/// The most solids that any table takes.
+pub const MOST_SOLIDS: usize = most_solids(MOST_RECORDS);
+
+/// One side of a tile, with the order in which the neighbours along it are listed.
+#[derive(Clone, Copy, Debug, PartialEq, Eq)]
+pub enum Side {
+    /// From top to bottom.
+    Right = 0,
+    /// From bottom to top.
+    Left = 1,
+    /// From right to left.
+    Top = 2,
+    /// From left to right.
+    Bottom = 3,
+}
+
+/// A layout on one mask layer: solids, and the space between them in strips.
+///
+/// ```
+/// use ushanderi_host::plane::{Plane, Side};
+/// use ushanderi_host::rects::Rect;
+/// use ushanderi_host::refusal::Refusal;
+///
+/// let mut plane = Plane::with_room(100)?;
+/// let trunk = plane.create(Rect::new(0, 0, 10, 100), 1)?;
+/// let branch = plane.create(Rect::new(10, 40, 60, 45), 1)?;
+///
+/// assert_eq!(plane.solids(), 2);
+/// assert_eq!(plane.find(5, 50)?, trunk);
+/// assert_eq!(plane.search(Rect::new(20, 50, 60, 90))?, None);
+/// assert_eq!(plane.neighbours(5, 50, Side::Right)?[1], branch);
+/// assert_eq!(plane.create(Rect::new(50, 30, 70, 60), 2), Err(Refusal::Occupied { by: branch }));
+/// # Ok::<(), Refusal>(())
+/// ```
+#[derive(Clone, Debug)]
+pub struct Plane {
+    words: Vec<i32>,
+}
+
+impl Plane {
+    /// An empty plane that takes so many solids; up to [`MOST_SOLIDS`], or the refusal is [`Refusal::Size`].
+    ///
+    /// ```
+    /// use ushanderi_host::plane::{Plane, MOST_SOLIDS};
+    /// use ushanderi_host::refusal::Refusal;
+    ///
+    /// assert_eq!(Plane::with_room(400)?.room(), 400);
+    /// assert_eq!(Plane::with_room(0)?.room(), 1); // the smallest table takes one
+    /// assert_eq!(Plane::with_room(MOST_SOLIDS + 1).err(), Some(Refusal::Size));
+    /// # Ok::<(), Refusal>(())
+    /// ```
+    pub fn with_room(solids: usize) -> Result<Plane, Refusal> {
+        if solids > MOST_SOLIDS {
+            return Err(Refusal::Size);
+        }
+        let mut plane = Plane { words: vec![0; records_for(solids) * RECORD_WORDS] };
+        plane.clear();
+        Ok(plane)
+    }
+
+    /// Takes over the words of a table, if they are sound.
+    ///
+    /// ```
+    /// use ushanderi_host::plane::Plane;
+    /// use ushanderi_host::refusal::Refusal;
+    ///
+    /// let words = Plane::with_room(3)?.into_words();
+    /// assert_eq!(Plane::from_words(words)?.solids(), 0);
+    /// assert_eq!(Plane::from_words(vec![0; 200]).err(), Some(Refusal::Unsound));
+    /// # Ok::<(), Refusal>(())
+    /// ```
+    pub fn from_words(words: Vec<i32>) -> Result<Plane, Refusal> {
+        calls::check(&words).result()?;
+        Ok(Plane { words })
+    }
+
+    /// The table's words.
+    pub fn words(&self) -> &[i32] {
+        &self.words
+    }
+
+    /// Gives the table's words away.
+    pub fn into_words(self) -> Vec<i32> {
+        self.words
+    }
+
+    /// How many solids the plane takes.
+    pub fn room(&self) -> usize {
+        most_solids(self.records())
+    }
+
+    /// How many records the table has, used or free.
+    pub fn records(&self) -> usize {
+        self.words.len() / RECORD_WORDS
+    }
+
+    /// How many solids there are.
+    pub fn solids(&self) -> usize {
+        calls::check(&self.words).result().expect("a plane's table is sound") as usize
+    }
+
+    /// Makes the plane empty.
+    pub fn clear(&mut self) {
+        calls::fresh(&mut self.words).result().expect("a plane's table has a right size");
+    }
+
+    /// The record of the tile that holds the cell.
+    ///
+    /// ```
+    /// use ushanderi_host::plane::Plane;
+    /// use ushanderi_host::refusal::Refusal;
+    ///
+    /// let plane = Plane::with_room(10)?;
+    /// assert_eq!(plane.find(0, 0)?, 0);
+    /// assert_eq!(plane.find(16_777_216, 0), Err(Refusal::Point));
+    /// # Ok::<(), Refusal>(())
+    /// ```
+    pub fn find(&self, x: i32, y: i32) -> Result<usize, Refusal> {
+        self.find_near(x, y, usize::MAX)
+    }
+
+    /// The same, from a record that is likely to be near; a number that names no tile does no harm.
+    pub fn find_near(&self, x: i32, y: i32, near: usize) -> Result<usize, Refusal> {
+        let hint = i32::try_from(near).unwrap_or(NO_TILE);
+        calls::find(&self.words, x, y, hint).result().map(|record| record as usize)
+    }
+
+    /// The words of a record, or none where the table has no record of that number.
+    pub fn view(&self, record: usize) -> &[i32] {
+        calls::view(&self.words, i32::try_from(record).unwrap_or(NO_TILE))
+    }
+
+    /// The tile in a record, if it holds one.
+    ///
+    /// ```
+    /// use ushanderi_host::plane::Plane;
+    /// use ushanderi_host::rects::{Rect, Tile};
+    ///
+    /// let plane = Plane::with_room(10)?;
+    /// assert_eq!(plane.tile(0), Some(Tile::space(Rect::PLANE)));
+    /// assert_eq!(plane.tile(1), None);
+    /// # Ok::<(), ushanderi_host::refusal::Refusal>(())
+    /// ```
+    pub fn tile(&self, record: usize) -> Option<Tile> {
+        let words = self.view(record).try_into().ok()?;
+        Some(words).filter(|words: &&[i32; RECORD_WORDS]| words[KIND] != FREE).map(Tile::of_record)
+    }
+
+    /// The records that tr, rt, bl and lb of a tile name; nothing over the plane's edge.
+    pub fn stitches(&self, record: usize) -> [Option<usize>; 4] {
+        let words = self.view(record);
+        STITCHES.map(|stitch| words.get(stitch).and_then(|&named| usize::try_from(named).ok()))
+    }
+
+    /// The records of the tiles along one side of the tile that holds the cell, in the side's order.
+    ///
+    /// ```
+    /// use ushanderi_host::plane::{Plane, Side};
+    /// use ushanderi_host::rects::Rect;
+    ///
+    /// let mut plane = Plane::with_room(10)?;
+    /// let one = plane.create(Rect::new(0, 0, 10, 10), 1)?;
+    /// let other = plane.create(Rect::new(10, 0, 20, 10), 2)?;
+    /// assert_eq!(plane.neighbours(3, 3, Side::Right)?, [other]);
+    /// assert_eq!(plane.neighbours(13, 3, Side::Left)?, [one]);
+    /// # Ok::<(), ushanderi_host::refusal::Refusal>(())
+    /// ```
+    pub fn neighbours(&self, x: i32, y: i32, side: Side) -> Result<Vec<usize>, Refusal> {
+        self.listed(|list| calls::neighbours(&self.words, x, y, side as i32, list))
+    }
+
+    /// The record of the solid that holds the area's first occupied cell, rows read from the top down and each row
+    /// from left to right; nothing if the area is free.
+    pub fn search(&self, area: Rect) -> Result<Option<usize>, Refusal> {
+        let answer = calls::search(&self.words, area.left, area.bottom, area.right, area.top);
+        answer.result().map(|record| usize::try_from(record).ok())
+    }
+
+    /// The records of the tiles that share a cell with the area, in directed order: each comes after all that touch
+    /// its left side or its top inside the area.
+    ///
+    /// ```
+    /// use ushanderi_host::plane::Plane;
+    /// use ushanderi_host::rects::Rect;
+    ///
+    /// let mut plane = Plane::with_room(10)?;
+    /// let one = plane.create(Rect::new(0, 0, 10, 10), 1)?;
+    /// let other = plane.create(Rect::new(20, 0, 30, 10), 2)?;
+    /// let gap = plane.find(15, 5)?;
+    /// assert_eq!(plane.enumerate(Rect::new(5, 2, 25, 8))?, [one, gap, other]);
+    /// # Ok::<(), ushanderi_host::refusal::Refusal>(())
+    /// ```
+    pub fn enumerate(&self, area: Rect) -> Result<Vec<usize>, Refusal> {
+        self.listed(|list| calls::enumerate(&self.words, area.left, area.bottom, area.right, area.top, list))
+    }
+
+    /// Lends a list that takes every record there is, so that it is never too short.
+    fn listed(&self, call: impl FnOnce(&mut [i32]) -> calls::Answer) -> Result<Vec<usize>, Refusal> {
+        let mut list = vec![0; self.records()];
+        let count = call(&mut list).result()?;
+        Ok(list[..count as usize].iter().map(|&record| record as usize).collect())
+    }
+
+    /// Adds a solid; its record. The solids that are there keep their records.
+    pub fn create(&mut self, rect: Rect, label: i32) -> Result<usize, Refusal> {
+        let answer = calls::create(&mut self.words, rect.left, rect.bottom, rect.right, rect.top, label);
+        answer.result().map(|record| record as usize)
+    }
+
+    /// Removes the solid that holds the cell; its label. The other solids keep their records.
+    ///
+    /// ```
+    /// use ushanderi_host::plane::Plane;
+    /// use ushanderi_host::rects::Rect;
+    /// use ushanderi_host::refusal::Refusal;
+    ///
+    /// let mut plane = Plane::with_room(10)?;
+    /// plane.create(Rect::new(0, 0, 10, 10), 7)?;
+    /// assert_eq!(plane.delete(9, 9)?, 7);
+    /// assert_eq!(plane.delete(9, 9), Err(Refusal::Space));
+    /// # Ok::<(), Refusal>(())
+    /// ```
+    pub fn delete(&mut self, x: i32, y: i32) -> Result<i32, Refusal> {
+        calls::delete(&mut self.words, x, y).result()
+    }
+
+    /// The solids as a saved layout.
+    pub fn save(&self) -> Vec<u8> {
+        let mut bytes = vec![0; self.room() * SAVED_BYTES];
+        let count = calls::save(&self.words, &mut bytes).result().expect("a plane can always be saved");
+        bytes.truncate(count as usize);
+        bytes
+    }
+
+    /// Makes the plane that of a saved layout; the number of its solids. If a record is refused, the plane is empty.
+    ///
+    /// ```
+    /// use ushanderi_host::plane::Plane;
+    /// use ushanderi_host::rects::Rect;
+    /// use ushanderi_host::refusal::{LoadRefusal, Refusal};
+    ///
+    /// let mut plane = Plane::with_room(10)?;
+    /// plane.create(Rect::new(0, 0, 10, 10), 1)?;
+    /// let bytes = plane.save();
+    /// assert_eq!(bytes.len(), 20);
+    ///
+    /// let mut copy = Plane::with_room(10)?;
+    /// assert_eq!(copy.load(&bytes), Ok(1));
+    /// assert_eq!(copy.save(), bytes);
+    /// assert_eq!(copy.load(&bytes[1..]), Err(LoadRefusal::Nothing(Refusal::File)));
+    /// assert_eq!(copy.solids(), 1);
+    /// # Ok::<(), Refusal>(())
+    /// ```
+    pub fn load(&mut self, bytes: &[u8]) -> Result<usize, LoadRefusal> {
+        calls::load(&mut self.words, bytes).load_result()
+    }
+}

@@ -1,0 +1,85 @@
+//! `Plane` against the rectangle-list program, through one long history: its methods hand on what the calls answer.
+use ushanderi_host::plane::{Plane, Side};
+use ushanderi_host::random::Random;
+use ushanderi_host::rects::{tiles, Rect, Solid, Tile};
+use ushanderi_host::refusal::{BadRecord, LoadRefusal, Refusal};
+use ushanderi_host::{answers, asks};
+
+const ROOM: usize = 30;
+const STEPS: usize = 600;
+const SIDES: [Side; 4] = [Side::Right, Side::Left, Side::Top, Side::Bottom];
+
+#[test]
+fn a_long_history() {
+    let mut random = Random::new(21);
+    let mut plane = Plane::with_room(ROOM).expect("a table of this size");
+    let mut picture = Vec::new();
+    for _ in 0..STEPS {
+        let all = tiles(&picture);
+        if random.one_in(3) {
+            let (x, y) = asks::cell(&all, &mut random);
+            assert_eq!(plane.delete(x, y).ok(), answers::delete(&mut picture, (x, y)).ok());
+        } else {
+            create(&mut plane, &mut picture, asks::solid(&all, &mut random));
+        }
+        assert_eq!(plane.solids(), picture.len());
+        ask(&plane, &picture, &mut random);
+        come_back(&plane, &picture);
+    }
+}
+
+fn create(plane: &mut Plane, picture: &mut Vec<Solid>, solid: Solid) {
+    let tile = Tile::solid(solid.rect, solid.label);
+    match (plane.create(solid.rect, solid.label), answers::create(picture, ROOM, solid)) {
+        (Ok(record), Ok(())) => assert_eq!(plane.tile(record), Some(tile)),
+        (Err(Refusal::Occupied { by }), Err(refused)) => {
+            let blocker = refused.blocker.expect("something is in the way");
+            assert_eq!(plane.tile(by), Some(Tile::solid(blocker.rect, blocker.label)));
+        }
+        (answer, wanted) => assert!(answer.is_err() && wanted.is_err(), "{answer:?}, wanted {wanted:?}"),
+    }
+}
+
+fn ask(plane: &Plane, picture: &[Solid], random: &mut Random) {
+    let all = tiles(picture);
+    let ((x, y), area) = (asks::cell(&all, random), asks::area(&all, random));
+    let read = |records: Vec<usize>| -> Vec<Tile> {
+        records.into_iter().map(|record| plane.tile(record).expect("an answer names a tile")).collect()
+    };
+    let near = random.below(200);
+    let found = plane.find_near(x, y, near);
+    assert_eq!(found, plane.find(x, y));
+    assert_eq!(found.ok().and_then(|record| plane.tile(record)), answers::find(&all, (x, y)).ok());
+    for (number, side) in SIDES.into_iter().enumerate() {
+        let beside = plane.neighbours(x, y, side).ok().map(read);
+        assert_eq!(beside, answers::neighbours(&all, (x, y), number as i32).ok());
+    }
+    assert_eq!(plane.enumerate(area).ok().map(read), answers::enumerate(&all, &area).ok());
+    let met = answers::search(picture, &area).map(|met| met.map(|(solid, _)| solid.rect));
+    let searched = plane.search(area).map(|met| met.and_then(|record| plane.tile(record)).map(|tile| tile.rect));
+    assert_eq!(searched.ok(), met.ok());
+}
+
+fn come_back(plane: &Plane, picture: &[Solid]) {
+    let bytes = plane.save();
+    assert_eq!(bytes, answers::save(picture));
+    let mut copy = Plane::with_room(ROOM).expect("a table of this size");
+    assert_eq!(copy.load(&bytes), Ok(picture.len()));
+    assert_eq!(copy.save(), bytes);
+    let same = Plane::from_words(copy.into_words()).expect("a plane's words are sound");
+    assert_eq!(same.solids(), picture.len());
+}
+
+#[test]
+fn every_refused_load() {
+    let mut plane = Plane::with_room(1).expect("a table of this size");
+    let solid = |left, right, label| answers::save(&[Solid { rect: Rect::new(left, 0, right, 1), label }]);
+    let bad = |why| Err(LoadRefusal::Record { index: 1, why });
+    let first = solid(0, 5, 1);
+    assert_eq!(plane.load(&[first.clone(), solid(9, 9, 1)].concat()), bad(BadRecord::Rect));
+    assert_eq!(plane.load(&[first.clone(), solid(8, 9, 0)].concat()), bad(BadRecord::Label));
+    assert_eq!(plane.load(&[first.clone(), solid(4, 9, 1)].concat()), bad(BadRecord::Occupied));
+    assert_eq!(plane.load(&[first.clone(), solid(8, 9, 1)].concat()), bad(BadRecord::Full));
+    assert_eq!(plane.load(&first[1..]), Err(LoadRefusal::Nothing(Refusal::File)));
+    assert_eq!(plane.load(&first), Ok(1));
+}

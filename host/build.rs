@@ -4,7 +4,7 @@ use std::env;
 use std::path::{Path, PathBuf};
 
 const SERVER: &str = "ushanderi";
-const REPEATED_INNER_WORK: &str = "ushanderi_repeated";
+const REPEATED_INNER_WORK: &str = "repeated";
 const FOLDER_VARIABLE: &str = "USHANDERI_LIB_DIR";
 
 fn main() {

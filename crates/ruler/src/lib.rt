@@ -2,8 +2,6 @@
 ghost use mathlib.Core.Path.{_≡_};
 ghost use Prim.Native.Nat.{_<_, _^_};
 ghost use lib.IntN.{pos};
-ghost use lib.Dec.{T};
-ghost use mathlib.Core.Logic.{_↔_};
 ghost use Rattle.ruler.specs.Ruler.{AtIs, ruler, word};
 
 pub fn at(x: i32) -> u64
@@ -27,12 +25,4 @@ pub fn count(n: u64) -> i32
     ensures { λ r. ⌜ r ≡ pos n ⌝ }
 {
     n as i32
-}
-
-// Whether a is less than b. Compared as signed numbers, since the compiler then sees that the ruler's 2^31 stands on both sides and drops it.
-pub fn less(a: u64, b: u64) -> bool
-    requires { ⌜ (a < 2 ^ 32) × (b < 2 ^ 32) ⌝ }
-    ensures { λ r. ⌜ T r ↔ (a < b) ⌝ }
-{
-    (a as i64) < (b as i64)
 }

@@ -9,8 +9,12 @@ ghost use Rattle.sound.specs.Records.{Keeps};
 ghost use Rattle.sound.specs.Tally.{AllWell};
 ghost use Rattle.sound.specs.Links.{Linked, AllStitched};
 use table::Record;
+use table::numbers::BOTTOM;
 use table::numbers::FREE;
+use table::numbers::LEFT;
 use table::numbers::NONE;
+use table::numbers::RIGHT;
+use table::numbers::TOP;
 use table::numbers::ZERO;
 
 // Record i is used and holds the cell (x, y). A free record is ten zeros and holds no cell, so its kind need not be read.
@@ -19,21 +23,14 @@ pub(crate) fn keeps(t: &[i32], i: usize, x: u64, y: u64) -> bool
     requires { ⌜ InPlane x y ⌝ }
     ensures { λ r. ⌜ T r ↔ Keeps (now (t .entry)) i x y ⌝ }
 {
-    let Record {
-        left,
-        bottom,
-        right,
-        top,
-        ..
-    } = table::read(t, i);
-    if ruler::less(x, left) {
+    if table::under_word(t, x, i, LEFT) {
         return false;
     }
-    if ruler::less(y, bottom) {
+    if table::under_word(t, y, i, BOTTOM) {
         return false;
     }
-    if ruler::less(x, right) {
-        return ruler::less(y, top);
+    if table::under_word(t, x, i, RIGHT) {
+        return table::under_word(t, y, i, TOP);
     }
     false
 }

@@ -10,7 +10,7 @@ ghost use Rattle.geometry.specs.Picture.{InPlane};
 ghost use Rattle.table.specs.Fresh.{wholePlane, freshTable};
 ghost use Rattle.table.specs.Sound.{SizeRight, capacity};
 ghost use Rattle.table.specs.View.{Places};
-ghost use Rattle.table.specs.Words.{WIDTH, recordsOf};
+ghost use Rattle.table.specs.Words.{WIDTH, recordsOf, num};
 ghost use Rattle.table.specs.Reading.{WordIs, Reads, write};
 
 pub mod numbers;
@@ -86,6 +86,15 @@ pub fn word(t: &[i32], i: usize, k: usize) -> u64
     ensures { λ r. ⌜ WordIs (now (t .entry)) i k r ⌝ }
 {
     ruler::at(t[WIDTH * i + k])
+}
+
+// Whether n is less than the number of word k of record i. The words are compared as they lie, without the ruler's shift.
+pub fn under_word(t: &[i32], n: u64, i: usize, k: usize) -> bool
+    requires { ⌜ (WIDTH * i + k < length (now t)) × (n < 2 ^ 32) ⌝ }
+    ensures { λ r. ⌜ T r ↔ (n < num (now (t .entry)) i k) ⌝ }
+{
+    let w = ruler::word_at(n);
+    w < t[WIDTH * i + k]
 }
 
 pub fn read(t: &[i32], i: usize) -> Record

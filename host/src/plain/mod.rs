@@ -98,7 +98,7 @@ pub fn enumerate(words: &[i32], left: i32, bottom: i32, right: i32, top: i32, li
 }
 
 /// Counts what a walk meets before the list is written, so that a list that is too short keeps what it held.
-fn fill(list: &mut [i32], walk: &impl Walk) -> Answer {
+pub fn fill(list: &mut [i32], walk: &impl Walk) -> Answer {
     let mut count = 0;
     walk.each(|_| count += 1);
     if list.len() < count {

@@ -5,10 +5,10 @@ use crate::work::{nth, Work};
 use crate::Measure;
 use std::hint::black_box;
 use ushanderi_host::answers;
-use ushanderi_host::calls::Answer;
+use ushanderi_host::plain;
 use ushanderi_host::plain::edit::Editor;
 use ushanderi_host::plain::saved;
-use ushanderi_host::plain::seek::{self, Along, Listing, Walk};
+use ushanderi_host::plain::seek::{self, Along, Listing};
 use ushanderi_host::rects::{Rect, Solid};
 use ushanderi_host::words::{records, records_mut};
 
@@ -23,64 +23,86 @@ pub const MEASURES: [Measure; 6] = [
 
 /// How many questions a sample asks, and how often each.
 const QUESTIONS: usize = 16;
-const TIMES: usize = 50;
+const TIMES: u32 = 50;
 const LABEL: i32 = 1;
-/// Where find begins: as far from most cells as it may be.
-const FROM: usize = 0;
 
+/// What a repeated call gives: 01's number, and the value of its last run.
+#[repr(C)]
+struct Runs {
+    number: u64,
+    value: u64,
+}
+
+// All numbers are on the server's ruler. Run n, from 0 to `times`, starts its search at the record `from` + n (0 + n where
+// there is no `from`), so that no run can be left out.
 extern "C" {
-    fn rep_find(table: *const i32, words: usize, x: i32, y: i32, from: i32, times: usize) -> Answer;
+    fn rep_find(table: *const i32, words: usize, x: u64, y: u64, from: u32, times: u32) -> Runs;
     #[rustfmt::skip]
     fn rep_search(
         table: *const i32,
         words: usize,
-        left: i32,
-        bottom: i32,
-        right: i32,
-        top: i32,
-        from: i32,
-        times: usize,
-    ) -> Answer;
+        left: u64,
+        bottom: u64,
+        right: u64,
+        top: u64,
+        from: u32,
+        times: u32,
+    ) -> Runs;
     #[rustfmt::skip]
     fn rep_neighbours(
         table: *const i32,
         words: usize,
-        x: i32,
-        y: i32,
-        side: i32,
+        x: u64,
+        y: u64,
+        side: usize,
         list: *mut i32,
         room: usize,
-        times: usize,
-    ) -> Answer;
+        times: u32,
+    ) -> Runs;
     #[rustfmt::skip]
     fn rep_enumerate(
         table: *const i32,
         words: usize,
-        left: i32,
-        bottom: i32,
-        right: i32,
-        top: i32,
+        left: u64,
+        bottom: u64,
+        right: u64,
+        top: u64,
         list: *mut i32,
         room: usize,
-        times: usize,
-    ) -> Answer;
+        times: u32,
+    ) -> Runs;
     /// A create and the delete of what it created.
     #[rustfmt::skip]
     fn rep_edit(
         table: *mut i32,
         words: usize,
-        left: i32,
-        bottom: i32,
-        right: i32,
-        top: i32,
-        label: i32,
-        times: usize,
-    ) -> Answer;
-    fn rep_save(table: *const i32, words: usize, bytes: *mut u8, room: usize, times: usize) -> Answer;
+        left: u64,
+        bottom: u64,
+        right: u64,
+        top: u64,
+        label: u64,
+        times: u32,
+    ) -> Runs;
+    fn rep_save(table: *const i32, words: usize, bytes: *mut u8, room: usize, times: u32) -> Runs;
+}
+
+/// A word as the number that the server works with.
+fn ruler(word: i32) -> u64 {
+    (i64::from(word) + (1 << 31)) as u64
+}
+
+fn ruled(rect: &Rect) -> [u64; 4] {
+    [rect.left, rect.bottom, rect.right, rect.top].map(ruler)
+}
+
+/// Every question of the benchmark is one that the server accepts.
+fn accepted(runs: Runs) {
+    assert!(runs.number == 0, "refused with {}", runs.number);
+    black_box(runs.value);
 }
 
 /// The seconds of so many calls, the check taken off, as all questions together show them.
-fn without_check(times: usize, mut call: impl FnMut(usize, usize)) -> f64 {
+fn without_check(times: usize, mut call: impl FnMut(usize, u32)) -> f64 {
     let mut seconds = 0.0;
     for number in 0..QUESTIONS {
         seconds += repeated(1, |_| call(number, TIMES)) - repeated(1, |_| call(number, 0));
@@ -88,13 +110,14 @@ fn without_check(times: usize, mut call: impl FnMut(usize, usize)) -> f64 {
     scaled(seconds.max(0.0), times)
 }
 
-/// The same for a function that checks nothing.
-fn unchecked(times: usize, mut call: impl FnMut(usize)) -> f64 {
-    scaled(repeated(QUESTIONS * TIMES, |number| call(number / TIMES)), times)
+/// The same for a function that checks nothing, which gets the numbers of the question and of the run.
+fn unchecked(times: usize, mut call: impl FnMut(usize, i32)) -> f64 {
+    let runs = TIMES as usize;
+    scaled(repeated(QUESTIONS * runs, |number| call(number / runs, (number % runs + 1) as i32)), times)
 }
 
 fn scaled(seconds: f64, times: usize) -> f64 {
-    seconds * times as f64 / (QUESTIONS * TIMES) as f64
+    seconds * times as f64 / (QUESTIONS * TIMES as usize) as f64
 }
 
 fn find(work: &Work) -> Medians {
@@ -103,13 +126,13 @@ fn find(work: &Work) -> Medians {
         &mut |times| {
             without_check(times, |number, repeats| {
                 let (x, y) = nth(&work.cells, number);
-                black_box(unsafe { rep_find(words.as_ptr(), words.len(), x, y, FROM as i32, repeats) });
+                accepted(unsafe { rep_find(words.as_ptr(), words.len(), ruler(x), ruler(y), 0, repeats) });
             })
         },
         &mut |times| {
-            unchecked(times, |number| {
+            unchecked(times, |number, run| {
                 let (x, y) = nth(&work.cells, number);
-                black_box(seek::find(black_box(table), seek::start(table, FROM as i32), x, y));
+                black_box(seek::find(black_box(table), seek::start(table, run), x, y));
             })
         },
         &mut |times| {
@@ -123,14 +146,13 @@ fn search(work: &Work) -> Medians {
     medians(
         &mut |times| {
             without_check(times, |number, repeats| {
-                let Rect { left, bottom, right, top } = nth(&work.areas, number);
-                let from = FROM as i32;
-                black_box(unsafe { rep_search(words.as_ptr(), words.len(), left, bottom, right, top, from, repeats) });
+                let [left, bottom, right, top] = ruled(&nth(&work.areas, number));
+                accepted(unsafe { rep_search(words.as_ptr(), words.len(), left, bottom, right, top, 0, repeats) });
             })
         },
         &mut |times| {
-            unchecked(times, |number| {
-                let from = seek::start(table, FROM as i32);
+            unchecked(times, |number, run| {
+                let from = seek::start(table, run);
                 black_box(seek::search(black_box(table), from, &nth(&work.areas, number)));
             })
         },
@@ -147,18 +169,17 @@ fn neighbours(work: &Work) -> Medians {
     medians(
         &mut |times| {
             without_check(times, |number, repeats| {
-                let ((x, y), side) = (nth(&work.held, number), (number % 4) as i32);
-                let (place, room) = (list.as_mut_ptr(), list.len());
-                black_box(unsafe { rep_neighbours(words.as_ptr(), words.len(), x, y, side, place, room, repeats) });
+                let ((x, y), side) = (nth(&work.held, number), number % 4);
+                let (x, y, place, room) = (ruler(x), ruler(y), list.as_mut_ptr(), list.len());
+                accepted(unsafe { rep_neighbours(words.as_ptr(), words.len(), x, y, side, place, room, repeats) });
             })
         },
         &mut |times| {
-            unchecked(times, |number| {
+            unchecked(times, |number, run| {
                 let ((x, y), side) = (nth(&work.held, number), number % 4);
-                let tile = seek::find(black_box(table), seek::start(table, -1), x, y);
-                let mut entries = plain_list.iter_mut();
+                let tile = seek::find(black_box(table), seek::start(table, run), x, y);
                 let walk = Along { table: black_box(table), tile, side: &seek::SIDES[side] };
-                walk.each(|at| *entries.next().expect("room") = at as i32);
+                consumed(plain::fill(black_box(&mut plain_list), &walk));
             })
         },
         &mut |times| {
@@ -172,23 +193,22 @@ fn neighbours(work: &Work) -> Medians {
 
 fn enumerate(work: &Work) -> Medians {
     let (words, table) = (&work.table, records(&work.table));
-    let Rect { left, bottom, right, top } = Rect::PLANE;
+    let [left, bottom, right, top] = ruled(&Rect::PLANE);
     let mut list = vec![0; table.len()];
     let mut plain_list = list.clone();
     medians(
         &mut |times| {
             without_check(times, |_, repeats| {
                 let (place, room) = (list.as_mut_ptr(), list.len());
-                black_box(unsafe {
+                accepted(unsafe {
                     rep_enumerate(words.as_ptr(), words.len(), left, bottom, right, top, place, room, repeats)
                 });
             })
         },
         &mut |times| {
-            unchecked(times, |_| {
-                let mut entries = plain_list.iter_mut();
-                let walk = Listing { table: black_box(table), from: seek::start(table, -1), area: Rect::PLANE };
-                walk.each(|at| *entries.next().expect("room") = at as i32);
+            unchecked(times, |_, run| {
+                let walk = Listing { table: black_box(table), from: seek::start(table, run), area: Rect::PLANE };
+                consumed(plain::fill(black_box(&mut plain_list), &walk));
             })
         },
         &mut |times| repeated(times, |_| consumed(answers::enumerate(black_box(&work.tiles), &Rect::PLANE))),
@@ -202,15 +222,15 @@ fn edit(work: &Work) -> Medians {
     medians(
         &mut |times| {
             without_check(times, |number, repeats| {
-                let Rect { left, bottom, right, top } = nth(&work.free, number);
-                let (place, count) = (words.as_mut_ptr(), words.len());
-                black_box(unsafe { rep_edit(place, count, left, bottom, right, top, LABEL, repeats) });
+                let [left, bottom, right, top] = ruled(&nth(&work.free, number));
+                let (place, count, label) = (words.as_mut_ptr(), words.len(), ruler(LABEL));
+                accepted(unsafe { rep_edit(place, count, left, bottom, right, top, label, repeats) });
             })
         },
         &mut |times| {
-            unchecked(times, |number| {
-                let table = records_mut(&mut plain_words);
-                let from = seek::start(table, -1);
+            unchecked(times, |number, run| {
+                let table = records_mut(black_box(&mut plain_words));
+                let from = seek::start(table, run);
                 let mut editor = Editor::new(table);
                 let solid = editor.create(from, &nth(&work.free, number), LABEL);
                 editor.delete(solid);
@@ -234,10 +254,10 @@ fn save(work: &Work) -> Medians {
         &mut |times| {
             without_check(times, |_, repeats| {
                 let (place, room) = (bytes.as_mut_ptr(), bytes.len());
-                black_box(unsafe { rep_save(words.as_ptr(), words.len(), place, room, repeats) });
+                accepted(unsafe { rep_save(words.as_ptr(), words.len(), place, room, repeats) });
             })
         },
-        &mut |times| unchecked(times, |_| saved::write(black_box(table), black_box(&mut plain_bytes))),
+        &mut |times| unchecked(times, |_, _| saved::write(black_box(table), black_box(&mut plain_bytes))),
         &mut |times| repeated(times, |_| consumed(answers::save(black_box(&work.solids)))),
     )
 }

@@ -1,0 +1,4 @@
+pub mod Entry
+pub mod Says
+pub mod Edit
+pub mod Runs

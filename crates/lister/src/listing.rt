@@ -4,7 +4,7 @@ use ushanderi::answer::DONE;
 ghost use mathlib.Core.Path.{_≡_};
 ghost use Prim.Native.Nat.{_+_, _*_, _≤_, _<_};
 ghost use lib.IntN.{pos};
-ghost use lib.ListN.{length, take, getD};
+ghost use lib.ListN.{length, getD};
 ghost use Rattle.ruler.specs.Ruler.{ruler};
 ghost use Rattle.geometry.specs.Picture.{ZERO};
 ghost use Rattle.table.specs.Words.{recordsOf, tileOf};

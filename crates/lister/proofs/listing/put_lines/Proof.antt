@@ -2,7 +2,6 @@
 use Prim.Native.Nat.{_-_}
 use native.Mathlib.Omega.{arith}
 use lib.ListN.{length}
-use borrow.Author.Needs.{needs}
 use Rattle.lister.specs.Listing.{Putting, putting-none, putting-more, putting-all}
 use Rattle.lister.proofs.listing.put_lines.Statement.{statement}
 use Rattle.lister.proofs.listing.put_lines.Tie as tie

@@ -108,7 +108,7 @@ module _ (P : Plane) (Z : Stitches) (g : Good P Z) (f : ℕ) (t : List ℤ) (s :
 -- ---- the step
 
 -- a tile at a point of a side, or none, has a word
-front-small : (P : Plane) (Z : Stitches) (g : Good P Z) (a k p : ℕ) → Z .none ≡ ZERO → P .R ≤ 4016 → Front P Z g a k p → k ≤ ZERO
+front-small : (P : Plane) (Z : Stitches) (g : Good P Z) (a k p : ℕ) → Z .none ≡ none → P .R ≤ 4016 → Front P Z g a k p → k ≤ none
 front-small P Z g a k p e few fr = eq-cases k (Z .none) (λ d. omega arith) (λ n. let b = front-holds P Z g a k p fr n .is .below in omega arith)
 
 module _ (f : ℕ) (t t′ t″ : List ℤ) (a j c kr kl : ℕ) (h : Splits f t a j c)

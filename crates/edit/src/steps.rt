@@ -14,6 +14,8 @@ ghost use Rattle.edit.specs.Loops.{CanRepoint, Repoints};
 ghost use Rattle.edit.specs.Around.{CanTurn, SidesTurn};
 ghost use Rattle.edit.specs.Divide.{CanDivide, Divided, CanMerge, Merged};
 ghost use Rattle.edit.specs.Ways.{CanWalk, LeadsTo, plain};
+use table::follow;
+use table::name;
 use table::numbers::BL;
 use table::numbers::BOTTOM;
 use table::numbers::FREE;
@@ -25,18 +27,6 @@ use table::numbers::TOP;
 use table::numbers::TR;
 use table::numbers::WIDTH;
 use table::numbers::ZERO;
-
-// The tile that word k of record i names: a record's number, or a number past every record.
-pub fn follow(t: &[i32], i: usize, k: usize) -> usize
-    requires { ⌜ WIDTH * i + k < length (now t) ⌝ }
-    ensures { λ r. ⌜ r ≡ link (num (now (t .entry)) i k) ⌝ }
-{
-    let w = table::word(t, i, k);
-    if ZERO <= w {
-        return (w - ZERO) as usize;
-    }
-    (ZERO * (ZERO - w)) as usize
-}
 
 // `table::set_word`, told by the numbers of the words: this one, and all others.
 fn put(t: &mut [i32], i: usize, k: usize, n: u64)
@@ -92,19 +82,6 @@ fn walk_up(t: &[i32], next: usize, at: usize, from: usize, q: u64) -> usize
         k = follow(t, k, next);
     }
     k
-}
-
-// The word that names the tile k, or that names none.
-fn name(k: usize) -> u64
-    requires { ⌜ k ≤ ZERO ⌝ }
-    ensures fits { λ r. ⌜ r < 2 ^ 32 ⌝ }
-    ensures names { λ r. ⌜ link r ≡ k ⌝ }
-{
-    let n = k as u64;
-    if n < ZERO {
-        return n + ZERO;
-    }
-    ZERO - 1
 }
 
 // An edge of record i, and the two stitches at one of its corners.

@@ -1,4 +1,5 @@
 // Words and saved records as bytes: 32-bit two's complement, low byte first.
+use table::numbers::WORDS;
 use table::numbers::ZERO;
 ghost use mathlib.Core.Path.{_≡_};
 ghost use Prim.Native.Nat.{_+_, _*_, _%_, _≤_, _<_, _^_};
@@ -6,9 +7,7 @@ ghost use lib.ListN.{length};
 ghost use Rattle.layout.specs.Bytes.{bytesOf, recordBytes, WordAt, SavedIs, SavedFits};
 ghost use Rattle.layout.specs.Patch.{patch};
 
-// How many numbers 32 bits hold, and how many a byte.
-const WORDS: u64 = 4294967296;
-
+// How many numbers a byte has.
 const BYTE: u64 = 256;
 
 // A saved record's five words as numbers on the ruler.

@@ -12,12 +12,10 @@ use crate::find::hint;
 use crate::search::search_from;
 use edit::create::create;
 use edit::delete::delete;
+use table::numbers::WORDS;
 use table::numbers::ZERO;
 ghost use Rattle.repeated.specs.Says.{EditSays};
 ghost use Rattle.repeated.specs.Edit.{CanEdit, MayEdit, Edited};
-
-// How many numbers a word has.
-const WORDS: u64 = 4294967296;
 
 // Why the solid cannot be created, or DONE.
 fn may_edit(t: &[i32], left: u64, bottom: u64, right: u64, top: u64, label: u64) -> u64

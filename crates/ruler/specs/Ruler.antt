@@ -2,7 +2,7 @@
 use mathlib.Core.Path.{_≡_, refl, sym, ap, _∙_, subst}
 use mathlib.Core.Bool.{Bool, true, false, cond}
 use mathlib.Core.Logic.{_↔_}
-use Prim.Native.Nat.{ℕ, suc, _+_, _-_, _<_, _≤_, _^_}
+use Prim.Native.Nat.{ℕ, suc, _+_, _-_, _%_, _<_, _≤_, _^_}
 use native.Mathlib.Omega.{arith}
 use lib.Dec.{T, ltb, ltb→lt, lt→ltb}
 use lib.IntN.{ℤ, pos, negsuc, _+ℤ_, _-ℤ_}
@@ -93,6 +93,17 @@ minus-half n = go (ltb n 2147483648)
     go : (b : Bool) → cond b (negsuc (2147483648 - suc n)) (pos (n - 2147483648)) ≡ wordBy b n
     go true = ap negsuc (omega arith)
     go false = refl
+
+-- the number of a word's bits, read without a sign, from its number on the ruler, and what the code of `bits` computes
+abbrev pub bits : ℕ → ℕ
+bits n = (n + 2147483648) % 4294967296
+
+pub plus-whole : (x : ℤ) → SFits w32 x → x +ℤ pos 4294967296 ≡ pos (ruler x + 2147483648)
+unfolding ruler
+plus-whole (pos n) f = ap pos (omega arith)
+plus-whole (negsuc n) f =
+    ap (λ (b : Bool). cond b (negsuc (suc n - 4294967297)) (pos (4294967296 - suc n))) (le-ltb 4294967296 (suc n) (omega arith))
+    ∙ ap pos (omega arith)
 
 -- what `at` gives
 pub record AtIs (x : ℤ) (r : ℕ) : Type 0 where

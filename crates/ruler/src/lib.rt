@@ -2,13 +2,21 @@
 ghost use mathlib.Core.Path.{_≡_};
 ghost use Prim.Native.Nat.{_<_, _^_};
 ghost use lib.IntN.{pos};
-ghost use Rattle.ruler.specs.Ruler.{AtIs, ruler, word};
+ghost use Rattle.ruler.specs.Ruler.{AtIs, bits, ruler, word};
 
 pub fn at(x: i32) -> u64
     ensures { λ r. ⌜ AtIs x r ⌝ }
 {
     let wide = x as i64;
     (wide + 2147483648) as u64
+}
+
+// A word's 32 bits as a number without a sign: 0 and the positive words are themselves, and the negative ones come after them.
+pub fn bits(x: i32) -> u64
+    ensures { λ r. ⌜ r ≡ bits (ruler x) ⌝ }
+{
+    let wide = x as i64;
+    (wide + 4294967296) as u64 % 4294967296
 }
 
 pub fn word_at(n: u64) -> i32

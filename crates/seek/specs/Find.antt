@@ -6,11 +6,11 @@ use native.Mathlib.Omega.{arith}
 use lib.IntN.{ℤ}
 use lib.Dec.{T, T-not, eqb, eqb→eq, eqb-refl}
 use Rattle.geometry.specs.Cases.{T-cases}
-use Rattle.geometry.specs.Picture.{ZERO, LOW, HIGH, FREE, Has}
+use Rattle.geometry.specs.Picture.{LOW, HIGH, FREE, Has}
 use Rattle.geometry.specs.Plane.{Is}
 use Rattle.geometry.specs.Find.{Higher, Lower, AtLeft, AtRight, InRow, Crossed, climb, sink, left-first, left-next, right-first, right-next}
 use Rattle.table.specs.Words.{num, tileOf, LEFT, BOTTOM, RIGHT, TOP, TR, RT, BL, LB, KIND}
-use Rattle.table.specs.Sound.{UsedIn, SizeRight}
+use Rattle.table.specs.Sound.{UsedIn}
 use Rattle.table.specs.Forms.{planeIn, stitchesIn, link, Forms, used-is}
 
 -- record r is used, and holds the cell (x, y)
@@ -42,44 +42,28 @@ pub record From (t : List ℤ) (k x y : ℕ) : Type 0 where
   pub row : Row t k y
   pub left : num t k LEFT ≤ x
 
--- ---- the steps: each stitch that is followed names a used record, so its word is a record number
+-- ---- the steps: each stitch that is followed names a used record
 
-pub record Leads (w : ℕ) (On : ℕ → Type 0) : Type 0 where
-  pub low : link w < ZERO
-  pub on : On (link w)
+module _ (t : List ℤ) (f : Forms t) where
+  pub climbs : (k y : ℕ) → IsIn t k → num t k TOP ≤ y → y < HIGH → Higher (planeIn t) k (link (num t k RT)) y
+  climbs = climb (planeIn t) (stitchesIn t) (f .good)
 
-module _ (t : List ℤ) (f : Forms t) (z : SizeRight t) where
-  pub climbs : (k y : ℕ) → IsIn t k → num t k TOP ≤ y → y < HIGH → Leads (num t k RT) (λ n. Higher (planeIn t) k n y)
-  climbs k y u h q =
-      let s = climb (planeIn t) (stitchesIn t) (f .good) k y u h q in
-      record { low = omega (arith, s .is .below, z .most); on = s }
+  pub sinks : (k y : ℕ) → IsIn t k → y < num t k BOTTOM → LOW ≤ y → Lower (planeIn t) k (link (num t k LB)) y
+  sinks = sink (planeIn t) (stitchesIn t) (f .good)
 
-  pub sinks : (k y : ℕ) → IsIn t k → y < num t k BOTTOM → LOW ≤ y → Leads (num t k LB) (λ n. Lower (planeIn t) k n y)
-  sinks k y u h q =
-      let s = sink (planeIn t) (stitchesIn t) (f .good) k y u h q in
-      record { low = omega (arith, s .is .below, z .most); on = s }
-
-  pub starts-left : (a y : ℕ) → Row t a y → LOW < num t a LEFT → Leads (num t a BL) (λ n. AtLeft (planeIn t) a n y)
-  starts-left a y u h =
-      let s = left-first (planeIn t) (stitchesIn t) (f .good) a y u h in
-      record { low = omega (arith, s .is .below, z .most); on = s }
+  pub starts-left : (a y : ℕ) → Row t a y → LOW < num t a LEFT → AtLeft (planeIn t) a (link (num t a BL)) y
+  starts-left = left-first (planeIn t) (stitchesIn t) (f .good)
 
   pub goes-up : (a k y : ℕ) → Row t a y → AtLeft (planeIn t) a k y → num t k TOP ≤ y
-      → Leads (num t k RT) (λ n. AtLeft (planeIn t) a n y × (num t k TOP < num t n TOP))
-  goes-up a k y u s h =
-      let n = left-next (planeIn t) (stitchesIn t) (f .good) a k y u s h in
-      record { low = omega (arith, n .0 .is .below, z .most); on = n }
+      → AtLeft (planeIn t) a (link (num t k RT)) y × (num t k TOP < num t (link (num t k RT)) TOP)
+  goes-up = left-next (planeIn t) (stitchesIn t) (f .good)
 
-  pub starts-right : (a y : ℕ) → Row t a y → num t a RIGHT < HIGH → Leads (num t a TR) (λ n. AtRight (planeIn t) a n y)
-  starts-right a y u h =
-      let s = right-first (planeIn t) (stitchesIn t) (f .good) a y u h in
-      record { low = omega (arith, s .is .below, z .most); on = s }
+  pub starts-right : (a y : ℕ) → Row t a y → num t a RIGHT < HIGH → AtRight (planeIn t) a (link (num t a TR)) y
+  starts-right = right-first (planeIn t) (stitchesIn t) (f .good)
 
   pub goes-down : (a k y : ℕ) → Row t a y → AtRight (planeIn t) a k y → y < num t k BOTTOM
-      → Leads (num t k LB) (λ n. AtRight (planeIn t) a n y × (num t n BOTTOM < num t k BOTTOM))
-  goes-down a k y u s h =
-      let n = right-next (planeIn t) (stitchesIn t) (f .good) a k y u s h in
-      record { low = omega (arith, n .0 .is .below, z .most); on = n }
+      → AtRight (planeIn t) a (link (num t k LB)) y × (num t (link (num t k LB)) BOTTOM < num t k BOTTOM)
+  goes-down = right-next (planeIn t) (stitchesIn t) (f .good)
 
 -- one record holds a cell, so where the search starts does not matter
 pub finds-one : (t : List ℤ) → Forms t → (x y r s : ℕ) → Finds t x y r → Finds t x y s → r ≡ s

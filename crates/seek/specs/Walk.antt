@@ -156,9 +156,6 @@ module _ (t : List ℤ) (f : Forms t) (z : SizeRight t) where
       unfolding Begins
       begins-some stop d h L l = begun L _ stop true d (λ _. first L l h) (λ e. absurd (true≢false e))
 
-      pub begins-named : seenAt (v .rises) (num t i (v .rim)) < HIGH → link (num t i (v .start)) < ZERO
-      begins-named h = let (L, l) = neighbours-some t f s i u in omega (arith, here-below L 0 _ l (first L l h), z .most)
-
     -- a step from place n
     module _ (L : List ℕ) (n : ℕ) (w : Walk) (l : Neighbours t s i L) (p : Place t s i L n w) (m : w .more ≡ true) where
       -- the number that the step compares is the side's
@@ -188,9 +185,6 @@ module _ (t : List ℤ) (f : Forms t) (z : SizeRight t) where
       step-next h =
           let (o, e) = listed-next Q Z (good t f s i u) i (sees-is t f s i u) L (listed L l) n (p .here m .below) (omega (arith, compares, stops)) in
           record { below = o; is = sym (e ∙ names) }
-
-      pub step-named : w .stop < seenAt (w .rises) (num t (w .at) (w .edge)) → link (num t (w .at) (w .next)) < ZERO
-      step-named h = omega (arith, here-below L (n + 1) _ l (step-next h), z .most)
 
       -- a list is short, so that a count of it fits
       pub place-short : n < HIGH
@@ -231,6 +225,3 @@ module _ (t : List ℤ) (f : Forms t) (z : SizeRight t) where
       let o = at-below (g .side) (g .of) (g .used) (g .list) (g .count) w (g .are) (g .place) (g .more) in
       let b = words-below (g .side) in
       record { edge = omega (arith, g .place .edge); next = omega (arith, g .place .next) }
-
-  pub goes-named : (w : Walk) → Goes t w → w .stop < seenAt (w .rises) (num t (w .at) (w .edge)) → link (num t (w .at) (w .next)) < ZERO
-  goes-named w g h = step-named (g .side) (g .of) (g .used) (g .list) (g .count) w (g .are) (g .place) (g .more) h

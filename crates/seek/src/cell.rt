@@ -1,5 +1,5 @@
 // The tile that holds a cell, from any tile: up or down to the cell's row, then left or right along it.
-use crate::stitch::follow;
+use table::follow;
 use table::numbers::BL;
 use table::numbers::BOTTOM;
 use table::numbers::LB;

@@ -5,7 +5,6 @@ mod directed;
 mod first;
 mod neighbours;
 mod side;
-mod stitch;
 
 pub use area::Seen;
 pub use area::search;

@@ -1,5 +1,5 @@
 // The walk along a side of a tile: it meets the tile's neighbours there, each once, in 01's order.
-use crate::stitch::follow;
+use table::follow;
 use table::numbers::BL;
 use table::numbers::BOTTOM;
 use table::numbers::HIGH;

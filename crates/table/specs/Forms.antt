@@ -4,6 +4,7 @@ use mathlib.Core.List.{List}
 use Prim.Native.Nat.{ℕ, _+_, _-_, _*_, _≤_, _<_}
 use native.Mathlib.Omega.{arith}
 use lib.IntN.{ℤ}
+use Rattle.ruler.specs.Ruler.{bits}
 use Rattle.geometry.specs.Cases.{lt-cases}
 use Rattle.geometry.specs.Picture.{ZERO, LOW, HIGH, FREE, Has}
 use Rattle.geometry.specs.Plane.{Plane, Is, Holds}
@@ -18,14 +19,14 @@ use Rattle.table.specs.Sound.{capacity, UsedIn, Named, NONE, Names, Stit
 abbrev pub planeIn : List ℤ → Plane
 planeIn t = planeOf (recordsOf t) (tileOf t)
 
--- A stitch word as a tile's number: a record number is itself, -1 is `none`, and every other word is past the records and not `none`. The last
--- term is 0 for every i32; it makes that true of any list, so that a table of the proofs' form is sound with no word on how large its words are.
--- One expression, so that `omega` sees through it.
+-- A stitch word as a tile's number: its bits, read without a sign. So a record number is itself, -1 is `none`, and every other word is past the
+-- records and not `none`. The last term is 0 for every i32; it makes that true of any list, so that a table of the proofs' form is sound with no
+-- word on how large its words are. One expression, so that `omega` sees through it.
 abbrev pub none : ℕ
-none = ZERO
+none = 4294967295
 
 abbrev pub link : ℕ → ℕ
-link w = (w - ZERO) + none * (ZERO - w) + (w - 4294967295)
+link w = bits w + (w - none) * 4294967296
 
 abbrev pub stitchesIn : List ℤ → Stitches
 stitchesIn t =
@@ -52,9 +53,9 @@ link-record j h = omega arith
 pub link-none : link NONE ≡ none
 link-none = refl
 
--- a word from 0 on, of 32 bits
-pub link-word : (w : ℕ) → ZERO ≤ w → w < 4294967296 → link w ≡ w - ZERO
-link-word w h f = omega arith
+-- what is read of a word, of 32 bits
+pub link-bits : (w : ℕ) → w < 4294967296 → bits w ≡ link w
+link-bits w f = omega arith
 
 pub record Recorded (w : ℕ) : Type 0 where
   pub from : ZERO ≤ w

@@ -12,6 +12,7 @@ ghost use Rattle.table.specs.Sound.{SizeRight, capacity};
 ghost use Rattle.table.specs.View.{Places};
 ghost use Rattle.table.specs.Words.{WIDTH, recordsOf, num};
 ghost use Rattle.table.specs.Reading.{WordIs, Reads, write};
+ghost use Rattle.table.specs.Forms.{none, link};
 
 pub mod numbers;
 
@@ -30,6 +31,7 @@ use numbers::RT;
 use numbers::TOP;
 use numbers::TR;
 use numbers::WIDTH;
+use numbers::WORDS;
 use numbers::ZERO;
 
 // Whether a cell is of the plane.
@@ -86,6 +88,24 @@ pub fn word(t: &[i32], i: usize, k: usize) -> u64
     ensures { λ r. ⌜ WordIs (now (t .entry)) i k r ⌝ }
 {
     ruler::at(t[WIDTH * i + k])
+}
+
+// The tile that the stitch in word k of record i names: a record's number, or a number past every record.
+pub fn follow(t: &[i32], i: usize, k: usize) -> usize
+    requires { ⌜ WIDTH * i + k < length (now t) ⌝ }
+    ensures { λ r. ⌜ r ≡ link (num (now (t .entry)) i k) ⌝ }
+{
+    ruler::bits(t[WIDTH * i + k]) as usize
+}
+
+// The word that names the tile k, or that names none.
+pub fn name(k: usize) -> u64
+    requires { ⌜ k ≤ none ⌝ }
+    ensures fits { λ r. ⌜ r < 2 ^ 32 ⌝ }
+    ensures names { λ r. ⌜ link r ≡ k ⌝ }
+{
+    let n = k as u64;
+    (n + ZERO) % WORDS
 }
 
 // Whether n is less than the number of word k of record i. The words are compared as they lie, without the ruler's shift.

@@ -1,5 +1,8 @@
 // The numbers of a table, all on the ruler: the plane's ends, the words of a kind, the place of each word in a record.
 
+// How many numbers a word has.
+pub const WORDS: u64 = 4294967296;
+
 // The words 0 and -1.
 pub const ZERO: u64 = 2147483648;
 

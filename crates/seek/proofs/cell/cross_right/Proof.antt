@@ -9,7 +9,7 @@ use Rattle.seek.proofs.cell.cross_right.Statement.{statement}
 use Rattle.seek.proofs.cell.cross_right.Tie as tie
 use Rattle.seek.proofs.cell.cross_right.Reads as reads
 use Rattle.seek.proofs.cell.cross_right.Lts as lts
-use Rattle.seek.proofs.stitch.follow.Reads as follow-reads
+use Rattle.table.proofs.follow.Reads as follow-reads
 use Rattle.table.proofs.word.Reads as word-reads
 
 abbrev Inv-loop : tie.InvT-loop
@@ -19,36 +19,31 @@ abbrev μ-loop : tie.MeasureT-loop
 μ-loop t a y k₀ k = num t k BOTTOM
 
 follow-requires : tie.Need-follow-requires Inv-loop μ-loop
-follow-requires c κs =
-    let p = c .pre in
-    (search needs, starts-right _ (p .0) (p .1 .0) _ _ (p .1 .1 .0) (p .1 .1 .1) .low)
+follow-requires c κs = search needs
 
 loop-holds : tie.Need-loop-holds Inv-loop μ-loop
 loop-holds c =
     let p = c .before .pre in
-    rw (c .follow .ensures) (starts-right _ (p .0) (p .1 .0) _ _ (p .1 .1 .0) (p .1 .1 .1) .on)
+    rw (c .follow .ensures) (starts-right _ (p .0) _ _ (p .1 .1 .0) (p .1 .1 .1))
 
 word-requires : tie.Need-word-requires Inv-loop μ-loop
 word-requires c κs = search needs
 
 follow-requires-2 : tie.Need-follow-requires-2 Inv-loop μ-loop
-follow-requires-2 c κs =
-    let l = c .before .before in
-    let p = l .before .before .pre in
-    (search needs, goes-down _ (p .0) (p .1 .0) _ (l .loop .k) _ (p .1 .1 .0) (l .loop .inv) (omega arith) .low)
+follow-requires-2 c κs = search needs
 
 loop-less : tie.Need-loop-less Inv-loop μ-loop
 loop-less c =
     let l = c .before .before .before in
     let p = l .before .before .pre in
-    let s = goes-down _ (p .0) (p .1 .0) _ (l .loop .k) _ (p .1 .1 .0) (l .loop .inv) (omega arith) .on .1 in
+    let s = goes-down _ (p .0) _ (l .loop .k) _ (p .1 .1 .0) (l .loop .inv) (omega arith) .1 in
     rw (c .follow2 .ensures) s
 
 loop-again : tie.Need-loop-again Inv-loop μ-loop
 loop-again c =
     let l = c .before .before .before in
     let p = l .before .before .pre in
-    rw (c .follow2 .ensures) (goes-down _ (p .0) (p .1 .0) _ (l .loop .k) _ (p .1 .1 .0) (l .loop .inv) (omega arith) .on .0)
+    rw (c .follow2 .ensures) (goes-down _ (p .0) _ (l .loop .k) _ (p .1 .1 .0) (l .loop .inv) (omega arith) .0)
 
 returns : tie.Need-returns Inv-loop μ-loop
 returns c =

@@ -7,7 +7,7 @@ use Rattle.seek.proofs.cell.to_row_down.Statement.{statement}
 use Rattle.seek.proofs.cell.to_row_down.Tie as tie
 use Rattle.seek.proofs.cell.to_row_down.Reads as reads
 use Rattle.seek.proofs.cell.to_row_down.Lts as lts
-use Rattle.seek.proofs.stitch.follow.Reads as follow-reads
+use Rattle.table.proofs.follow.Reads as follow-reads
 use Rattle.table.proofs.word.Reads as word-reads
 
 abbrev Inv-loop : tie.InvT-loop
@@ -23,22 +23,19 @@ word-requires : tie.Need-word-requires Inv-loop μ-loop
 word-requires c κs = search needs
 
 follow-requires : tie.Need-follow-requires Inv-loop μ-loop
-follow-requires c κs =
-    let l = c .before .before in
-    let p = l .before .pre in
-    (search needs, sinks _ (p .0) (p .1 .0) (l .loop .k) _ (l .loop .inv .is) (omega arith) (p .1 .1 .1) .low)
+follow-requires c κs = search needs
 
 loop-less : tie.Need-loop-less Inv-loop μ-loop
 loop-less c =
     let l = c .before .before .before in
     let p = l .before .pre in
-    rw (c .follow .ensures) (sinks _ (p .0) (p .1 .0) (l .loop .k) (l .before .args .y) (l .loop .inv .is) (omega arith) (p .1 .1 .1) .on .lower)
+    rw (c .follow .ensures) (sinks _ (p .0) (l .loop .k) (l .before .args .y) (l .loop .inv .is) (omega arith) (p .1 .1 .1) .lower)
 
 loop-again : tie.Need-loop-again Inv-loop μ-loop
 loop-again c =
     let l = c .before .before .before in
     let p = l .before .pre in
-    let s = sinks _ (p .0) (p .1 .0) (l .loop .k) (l .before .args .y) (l .loop .inv .is) (omega arith) (p .1 .1 .1) .on in
+    let s = sinks _ (p .0) (l .loop .k) (l .before .args .y) (l .loop .inv .is) (omega arith) (p .1 .1 .1) in
     rw (c .follow .ensures) (record { is = s .is; top = s .top })
 
 returns : tie.Need-returns Inv-loop μ-loop

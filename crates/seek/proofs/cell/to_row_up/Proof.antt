@@ -9,7 +9,7 @@ use Rattle.seek.proofs.cell.to_row_up.Statement.{statement}
 use Rattle.seek.proofs.cell.to_row_up.Tie as tie
 use Rattle.seek.proofs.cell.to_row_up.Reads as reads
 use Rattle.seek.proofs.cell.to_row_up.Lts as lts
-use Rattle.seek.proofs.stitch.follow.Reads as follow-reads
+use Rattle.table.proofs.follow.Reads as follow-reads
 use Rattle.table.proofs.word.Reads as word-reads
 
 abbrev Inv-loop : tie.InvT-loop
@@ -25,23 +25,20 @@ word-requires : tie.Need-word-requires Inv-loop μ-loop
 word-requires c κs = search needs
 
 follow-requires : tie.Need-follow-requires Inv-loop μ-loop
-follow-requires c κs =
-    let l = c .before .before in
-    let p = l .before .pre in
-    (search needs, climbs _ (p .0) (p .1 .0) (l .loop .k) _ (l .loop .inv) (omega arith) (p .1 .1 .1) .low)
+follow-requires c κs = search needs
 
 loop-less : tie.Need-loop-less Inv-loop μ-loop
 loop-less c =
     let l = c .before .before .before in
     let p = l .before .pre in
-    let s = climbs _ (p .0) (p .1 .0) (l .loop .k) (l .before .args .y) (l .loop .inv) (omega arith) (p .1 .1 .1) .on in
+    let s = climbs _ (p .0) (l .loop .k) (l .before .args .y) (l .loop .inv) (omega arith) (p .1 .1 .1) in
     rw (c .follow .ensures) (omega arith)
 
 loop-again : tie.Need-loop-again Inv-loop μ-loop
 loop-again c =
     let l = c .before .before .before in
     let p = l .before .pre in
-    rw (c .follow .ensures) (climbs _ (p .0) (p .1 .0) (l .loop .k) (l .before .args .y) (l .loop .inv) (omega arith) (p .1 .1 .1) .on .is)
+    rw (c .follow .ensures) (climbs _ (p .0) (l .loop .k) (l .before .args .y) (l .loop .inv) (omega arith) (p .1 .1 .1) .is)
 
 returns : tie.Need-returns Inv-loop μ-loop
 returns c = record { is = c .before .before .loop .inv; top = search needs }

@@ -2,12 +2,12 @@
 use native.Mathlib.Omega.{arith}
 use borrow.Author.Needs.{needs}
 use Rattle.seek.specs.Neighbours.{sideOf}
-use Rattle.seek.specs.Walk.{below-of, begins-none, begins-some, begins-named}
+use Rattle.seek.specs.Walk.{below-of, begins-none, begins-some}
 use Rattle.seek.proofs.side.along.Statement.{statement}
 use Rattle.seek.proofs.side.along.Tie as tie
 use Rattle.seek.proofs.side.along.Reads as reads
 use Rattle.seek.proofs.side.along.Lts as lts
-use Rattle.seek.proofs.stitch.follow.Reads as follow-reads
+use Rattle.table.proofs.follow.Reads as follow-reads
 use Rattle.seek.proofs.side.seen.Reads as seen-reads
 use Rattle.seek.proofs.side.words_of.Reads as words-of-reads
 
@@ -29,9 +29,8 @@ returns c =
 follow-requires : tie.Need-follow-requires
 follow-requires c κs =
     let a = c .before .before .before in
-    let p = a .before .pre in
     let b = below-of (sideOf (a .before .args .side)) _ (a .words-of .ensures) in
-    (omega arith, begins-named _ (p .0) (p .1 .0) (sideOf (a .before .args .side)) _ (p .1 .1) _ (a .words-of .ensures) (omega arith))
+    search needs
 
 returns-2 : tie.Need-returns-2
 returns-2 c =

@@ -1,11 +1,11 @@
 -- `seek::side::Walk::step` meets its contract. A step brings the walk from each place of the list to the next. Assumes nothing.
 use native.Mathlib.Omega.{arith}
-use Rattle.seek.specs.Walk.{steps-end, steps-on, goes-inside, goes-named}
+use Rattle.seek.specs.Walk.{steps-end, steps-on, goes-inside}
 use Rattle.seek.proofs.side.Walk.step.Statement.{statement}
 use Rattle.seek.proofs.side.Walk.step.Tie as tie
 use Rattle.seek.proofs.side.Walk.step.Reads as reads
 use Rattle.seek.proofs.side.Walk.step.Lts as lts
-use Rattle.seek.proofs.stitch.follow.Reads as follow-reads
+use Rattle.table.proofs.follow.Reads as follow-reads
 use Rattle.seek.proofs.side.seen.Reads as seen-reads
 
 seen-requires : tie.Need-seen-requires
@@ -19,7 +19,7 @@ returns c =
 follow-requires : tie.Need-follow-requires
 follow-requires c κs =
     let p = c .before .before .before .pre in
-    (goes-inside _ (p .0) (p .1 .0) _ (p .1 .1) .next, goes-named _ (p .0) (p .1 .0) _ (p .1 .1) (omega arith))
+    goes-inside _ (p .0) (p .1 .0) _ (p .1 .1) .next
 
 returns-2 : tie.Need-returns-2
 returns-2 c =

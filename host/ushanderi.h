@@ -1,8 +1,14 @@
 /* The tile server's calls by C names. Link target/staticlib/libushanderi.a, which `rt staticlib ushanderi` writes.
  *
- * A table is a run of 32-bit words, ten to a record: left, bottom, right, top, tr, rt, bl, lb, kind, label.
- * Every call takes any numbers and any words. A slice is a pointer and a length; the pointer is aligned and not
- * null, also where the length is 0; two slices of one call do not overlap. */
+ * The plane is every cell (x, y) with -USH_EDGE <= x, y < USH_EDGE. A tile holds the cells with left <= x < right and
+ * bottom <= y < top: its lower and left edges belong to it, the upper and right ones do not. A table keeps the solids
+ * of a layout and the space between them, in the widest strips, as records of ten 32-bit words: left, bottom, right,
+ * top, tr, rt, bl, lb, kind, label. A stitch is the record of the tile that holds a cell, or -1 outside the plane:
+ * tr (right, top - 1), rt (right - 1, top), bl (left - 1, bottom), lb (left, bottom - 1). Space has label 0; a free
+ * record is ten zeros. A table of R records takes (R - 16) / 4 solids, rounded down.
+ *
+ * Every call answers any numbers and any words, and keeps nothing between calls. A slice is a pointer and a length;
+ * the pointer is aligned and not null, also where the length is 0; two slices of one call do not overlap. */
 #ifndef USHANDERI_H
 #define USHANDERI_H
 
@@ -13,7 +19,8 @@
 extern "C" {
 #endif
 
-/* The answer numbers. Each call names its refusals in the order in which they are tried. */
+/* The answer numbers. Each call names those that it may give in the order in which they are tried: the first that holds
+ * is the answer, and DONE if none does. A refusal's value is 0 unless said, and it writes nothing unless said. */
 enum {
     USH_DONE = 0,
     USH_SIZE = 1,      /* words not a multiple of ten, or the records not in 20..4,016 */
@@ -21,9 +28,9 @@ enum {
     USH_POINT = 3,     /* the cell is outside the plane */
     USH_RECT = 4,      /* right <= left, top <= bottom, or an edge outside -16,777,216..16,777,216 */
     USH_LABEL = 5,     /* label below 1 */
-    USH_OCCUPIED = 6,  /* some solid shares a cell with the rectangle */
+    USH_OCCUPIED = 6,  /* some solid shares a cell with the rectangle; value: the record that ush_search gives */
     USH_FULL = 7,      /* as many solids as the table takes are present */
-    USH_SPACE = 8,     /* the cell is held by space */
+    USH_SPACE = 8,     /* the cell to delete at is held by space */
     USH_SIDE = 9,      /* side is not 0..3 */
     USH_SHORT = 10,    /* the lent list is shorter than needed; value: the length needed */
     USH_FILE = 11,     /* saved bytes not a multiple of 20 */
@@ -45,64 +52,71 @@ enum {
 };
 enum { USH_KIND_FREE = 0, USH_KIND_SPACE = 1, USH_KIND_SOLID = 2 };
 
-#define USH_EDGE 16777216      /* the plane is every cell from -USH_EDGE up to, but not with, USH_EDGE */
-#define USH_SAVED_BYTES 20     /* of one solid in a saved layout */
+#define USH_EDGE 16777216
+#define USH_LEAST_RECORDS 20
+#define USH_MOST_RECORDS 4016
+#define USH_RECORDS_FOR(solids) (4 * (solids) + 16)   /* for 1 to 1,000 solids */
+#define USH_SAVED_BYTES 20                            /* of one solid in a saved layout */
 
-typedef struct { int32_t number; int32_t value; } ush_answer;   /* a refusal's value is 0 unless a call says more */
+typedef struct { int32_t number; int32_t value; } ush_answer;
 typedef struct { size_t at; size_t len; } ush_part;             /* words table[at .. at + len) */
 
 /* Makes the table an empty plane: record 0 is the one space tile with four stitches of -1, all other words are 0.
- * Refusals: SIZE, which writes nothing. Value: 0. */
+ * Answers SIZE; DONE with value 0. */
 ush_answer ush_fresh(int32_t *table, size_t words);
 
 /* Says whether the table is sound: its used records are exactly the tiles of a set of solids that the table may
  * hold, each once, with right stitches, and its free records are zeros.
- * Refusals: SIZE, UNSOUND. Value: the number of solids. */
+ * Answers SIZE, UNSOUND; DONE with the number of solids. Writes nothing. */
 ush_answer ush_check(const int32_t *table, size_t words);
 
-/* The record of the tile that holds the cell (x, y). A hint is any number and changes only the time it takes.
- * Refusals: SIZE, UNSOUND, POINT. Value: the record. */
+/* Finds the tile that holds the cell (x, y). A hint is any number and changes only the time it takes.
+ * Answers SIZE, UNSOUND, POINT; DONE with the tile's record. Writes nothing. */
 ush_answer ush_find(const int32_t *table, size_t words, int32_t x, int32_t y, int32_t hint);
 
-/* Where the ten words of a record stand in the caller's table: at = ten times the record, len = 10.
- * len = 0 on a size fault, or where the table has no record of that number. Soundness is not looked at. */
+/* Says where the ten words of a record stand in the caller's table: at = ten times the record, len = 10. On a SIZE
+ * fault, or where the table has no record of that number, len = 0. Soundness is not looked at. Writes nothing. */
 ush_part ush_view(const int32_t *table, size_t words, int32_t record);
 
-/* The records of the tiles along one side of the tile that holds (x, y), in the side's order; a shared corner is no
- * shared side. Entries of the list past the count keep what they held.
- * Refusals: SIZE, UNSOUND, POINT, SIDE, SHORT; they write nothing. Value: how many. */
+/* Lists the tiles along one side of the tile that holds (x, y), in the side's order; a shared corner is no shared side.
+ * Answers SIZE, UNSOUND, POINT, SIDE, SHORT; DONE with how many there are, and as many first entries of the list are
+ * their records. Writes nothing else. */
 ush_answer ush_neighbours(const int32_t *table, size_t words, int32_t x, int32_t y, int32_t side,
                           int32_t *list, size_t room);
 
-/* Whether the area is free. Value: -1 if it is, else the record of the solid that holds its first occupied cell,
- * rows read from the top down and each row from left to right. Refusals: SIZE, UNSOUND, RECT. */
+/* Looks for the first solid in an area, rows read from the top down and each row from left to right.
+ * Answers SIZE, UNSOUND, RECT; DONE with -1 if the area is free, else with the record of the solid that holds its first
+ * occupied cell. Writes nothing. */
 ush_answer ush_search(const int32_t *table, size_t words, int32_t left, int32_t bottom, int32_t right, int32_t top);
 
-/* The records of the tiles that share a cell with the area, in directed order: those that begin at or before the
- * area's left are roots, from top to bottom; any other hangs under the tile left of its lowest cell inside the area;
- * each is followed by what hangs under it, from top to bottom. Entries past the count keep what they held.
- * Refusals: SIZE, UNSOUND, RECT, SHORT; they write nothing. Value: how many. */
+/* Lists the tiles that share a cell with the area, in directed order: those that begin at or before the area's left
+ * are roots, from top to bottom; any other hangs under the tile left of its lowest cell inside the area; each is
+ * followed by what hangs under it, from top to bottom.
+ * Answers SIZE, UNSOUND, RECT, SHORT; DONE with how many there are, and as many first entries of the list are their
+ * records. Writes nothing else. */
 ush_answer ush_enumerate(const int32_t *table, size_t words, int32_t left, int32_t bottom, int32_t right, int32_t top,
                          int32_t *list, size_t room);
 
-/* Adds a solid. The solids that are there keep their records.
- * Refusals: SIZE, UNSOUND, RECT, LABEL, OCCUPIED (value: the record that ush_search gives), FULL; they write
- * nothing. Value: the new solid's record. */
+/* Draws a solid. The solids that are there keep their records.
+ * Answers SIZE, UNSOUND, RECT, LABEL, OCCUPIED (value: the record that ush_search gives), FULL; DONE with the new
+ * solid's record. Writes the table only. */
 ush_answer ush_create(int32_t *table, size_t words, int32_t left, int32_t bottom, int32_t right, int32_t top,
                       int32_t label);
 
 /* Removes the solid that holds the cell. The other solids keep their records.
- * Refusals: SIZE, UNSOUND, POINT, SPACE, ROOM; they write nothing. Value: the label removed. */
+ * Answers SIZE, UNSOUND, POINT, SPACE, ROOM (which no sound table gives: one of its records is always free); DONE with
+ * the label removed. Writes the table only. */
 ush_answer ush_delete(int32_t *table, size_t words, int32_t x, int32_t y);
 
-/* Writes the solids, 20 bytes each: left, bottom, right, top, label, 32-bit two's complement, low byte first; highest
- * top first, ties by smaller left. Bytes past the count keep what they held.
- * Refusals: SIZE, UNSOUND, SHORT; they write nothing. Value: how many bytes. */
+/* Saves the solids, 20 bytes each: left, bottom, right, top, label, 32-bit two's complement, low byte first; highest
+ * top first, ties by smaller left.
+ * Answers SIZE, UNSOUND, SHORT; DONE with how many bytes there are, which are the first ones. Writes nothing else. */
 ush_answer ush_save(const int32_t *table, size_t words, uint8_t *bytes, size_t room);
 
-/* Makes the table the plane of a saved layout, as a fresh call and one create for each record would.
- * Refusals: SIZE, FILE, which write nothing; then RECT, LABEL, OCCUPIED or FULL of the first refused record, whose
- * value is that record's index from 0, and the table is a fresh plane. Value: the number of records. */
+/* Makes the table the plane of a saved layout, as a fresh call and one create for each record would, whatever the table
+ * held. No bytes make a fresh plane.
+ * Answers SIZE, FILE; then RECT, LABEL, OCCUPIED or FULL of the first refused record, with that record's index from 0,
+ * and the table is a fresh plane; DONE with the number of records. Writes the table only. */
 ush_answer ush_load(int32_t *table, size_t words, const uint8_t *bytes, size_t count);
 
 #ifdef __cplusplus

@@ -1,13 +1,14 @@
 /* A seat in C: makes a plane, draws a clock trunk with branches, asks what is beside it and where is room, shows a
- * refusal, removes a branch, and saves. Prints the same lines every time; seat.txt holds them. From the folder above:
+ * refusal, removes a branch, and saves. Prints the same lines every time; seat.txt holds them. A file that is named is
+ * given the saved layout, for `draw` and the lister to read. From the folder above:
  *
  *   gcc -std=c11 -Wall -Wextra -Werror -I. examples/seat.c ../target/staticlib/libushanderi.a -o ../target/seat
- *   ../target/seat | diff - examples/seat.txt */
+ *   ../target/seat [FILE] | diff - examples/seat.txt */
 #include "ushanderi.h"
 
 #include <stdio.h>
 
-enum { SOLIDS = 40, RECORDS = 4 * SOLIDS + 16, WORDS = RECORDS * USH_RECORD_WORDS, BRANCHES = 4 };
+enum { SOLIDS = 40, RECORDS = USH_RECORDS_FOR(SOLIDS), WORDS = RECORDS * USH_RECORD_WORDS, BRANCHES = 4 };
 enum { TRUNK_NET = 1, BRANCH_NET = 2 };
 
 static int32_t table[WORDS];
@@ -62,25 +63,43 @@ static void ask_whether_free(int32_t left, int32_t bottom, int32_t right, int32_
     printf("%s\n", answer.number == USH_DONE ? "free" : names[answer.number]);
 }
 
-static void save_and_load_again(void)
+/* How many bytes were saved. */
+static size_t save_and_load_again(void)
 {
-    ush_answer answer = ush_save(table, WORDS, saved, 3);
-    printf("save to 3 bytes: %s, %d needed\n", names[answer.number], (int)answer.value);
-    answer = ush_save(table, WORDS, saved, sizeof saved);
+    ush_answer short_answer = ush_save(table, WORDS, saved, 3);
+    printf("save to 3 bytes: %s, %d needed\n", names[short_answer.number], (int)short_answer.value);
+    ush_answer answer = ush_save(table, WORDS, saved, sizeof saved);
     printf("save: %s, %d bytes, the first solid begins at column %d\n", names[answer.number], (int)answer.value,
            saved[0] | saved[1] << 8);
-    answer = ush_load(table, WORDS, saved, (size_t)answer.value);
-    printf("load: %s, %d solids\n", names[answer.number], (int)answer.value);
+    ush_answer loaded = ush_load(table, WORDS, saved, (size_t)answer.value);
+    printf("load: %s, %d solids\n", names[loaded.number], (int)loaded.value);
+    return (size_t)answer.value;
 }
 
-int main(void)
+static int write_file(const char *name, size_t bytes)
 {
-    ush_fresh(table, WORDS);
+    FILE *file = fopen(name, "wb");
+    int written = file != NULL && fwrite(saved, 1, bytes, file) == bytes;
+    if (file == NULL || fclose(file) != 0 || !written) {
+        perror(name);
+        return 1;
+    }
+    return 0;
+}
+
+static void draw_trunk_and_branches(void)
+{
     draw(100, 0, 110, 100, TRUNK_NET);
     for (int32_t branch = 0; branch < BRANCHES; branch++) {
         int32_t bottom = 15 + 20 * branch;
         draw(branch % 2 ? 40 : 110, bottom, branch % 2 ? 100 : 170, bottom + 4, BRANCH_NET + branch);
     }
+}
+
+int main(int count, char **arguments)
+{
+    printf("fresh: %s\n", names[ush_fresh(table, WORDS).number]);
+    draw_trunk_and_branches();
     printf("check: %d solids\n", (int)ush_check(table, WORDS).value);
     print_list("right of the trunk", ush_neighbours(table, WORDS, 105, 50, USH_RIGHT_SIDE, list, RECORDS));
     print_list("left of it, list too short", ush_neighbours(table, WORDS, 105, 50, USH_LEFT_SIDE, list, 2));
@@ -92,6 +111,6 @@ int main(void)
     printf("delete at (160, 56): label %d\n", (int)ush_delete(table, WORDS, 160, 56).value);
     printf("delete there again: %s\n", names[ush_delete(table, WORDS, 160, 56).number]);
     ask_whether_free(120, 20, 160, 60);
-    save_and_load_again();
-    return 0;
+    size_t bytes = save_and_load_again();
+    return count > 1 ? write_file(arguments[1], bytes) : 0;
 }

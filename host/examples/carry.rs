@@ -1,8 +1,7 @@
 //! Carries a layout from one plane to another by its saved bytes, and shows what a load refuses. Run with
 //! `cargo run --example carry`.
 use std::error::Error;
-use ushanderi_host::plane::Plane;
-use ushanderi_host::rects::Rect;
+use ushanderi_host::{Plane, Rect};
 
 fn main() -> Result<(), Box<dyn Error>> {
     let mut here = Plane::with_room(10)?;

@@ -1,8 +1,6 @@
 //! Draws a clock trunk with branches and asks what a seat asks: what is beside it, where is room, what is in the way.
 //! Run with `cargo run --example clock`.
-use ushanderi_host::plane::{Plane, Side};
-use ushanderi_host::rects::{Rect, Tile};
-use ushanderi_host::refusal::Refusal;
+use ushanderi_host::{Plane, Rect, Refusal, Side, Tile};
 
 const TRUNK: i32 = 1;
 const BRANCH: i32 = 2;
@@ -17,16 +15,16 @@ fn main() -> Result<(), Refusal> {
 
     println!("right of the trunk, from the top down:");
     for record in plane.neighbours(5, 50, Side::Right)? {
-        println!("  {}", described(&plane, record));
+        println!("  {}", tile(&plane, record));
     }
     println!("in the area 20 30 80 60, in directed order:");
     for record in plane.enumerate(Rect::new(20, 30, 80, 60))? {
-        println!("  {}", described(&plane, record));
+        println!("  {}", tile(&plane, record));
     }
     for area in [Rect::new(20, 50, 60, 65), Rect::new(20, 50, 60, 75)] {
         match plane.search(area)? {
-            None => println!("{area:?} is free"),
-            Some(record) => println!("{area:?} meets {}", described(&plane, record)),
+            None => println!("{area} is free"),
+            Some(record) => println!("{area} meets {}", tile(&plane, record)),
         }
     }
     if let Err(refusal) = plane.create(Rect::new(50, 0, 55, 100), 3) {
@@ -35,11 +33,6 @@ fn main() -> Result<(), Refusal> {
     Ok(())
 }
 
-fn described(plane: &Plane, record: usize) -> String {
-    let Tile { rect, kind: _, label } = plane.tile(record).expect("an answer names a tile");
-    let Rect { left, bottom, right, top } = rect;
-    if label == 0 {
-        return format!("space {left} {bottom} {right} {top}");
-    }
-    format!("solid {left} {bottom} {right} {top}, net {label}")
+fn tile(plane: &Plane, record: usize) -> Tile {
+    plane.tile(record).expect("an answer names a tile")
 }

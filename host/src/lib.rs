@@ -1,10 +1,10 @@
 //! The host's side of the tile server: its calls made safe, and the independent programs they are compared with.
 //!
-//! A program that only wants the server uses [`plane::Plane`]. [`calls`] has the calls as they are, on words that the
-//! caller owns. All other modules belong to the comparison runs and the benchmark: [`rects`] and [`answers`] are the
-//! rectangle-list program, [`plain`] is the server's method in ordinary Rust.
+//! A program that only wants the server uses [`Plane`], whose answers are results with a [`Refusal`]. [`calls`] has the
+//! calls as they are, on words that the caller owns. All other modules belong to the comparison runs and the benchmark:
+//! [`rects`] and [`answers`] are the rectangle-list program, [`plain`] is the server's method in ordinary Rust.
 #![deny(unsafe_code)]
-#![warn(missing_docs)]
+#![deny(missing_docs)]
 
 pub mod answers;
 pub mod asks;
@@ -23,3 +23,7 @@ pub mod refusal;
 pub mod tables;
 pub mod tally;
 pub mod words;
+
+pub use plane::{Plane, Side, MOST_SOLIDS};
+pub use rects::{Rect, Tile};
+pub use refusal::{BadRecord, LoadRefusal, Refusal};

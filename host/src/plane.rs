@@ -25,9 +25,7 @@ pub enum Side {
 /// A layout on one mask layer: solids, and the space between them in strips.
 ///
 /// ```
-/// use ushanderi_host::plane::{Plane, Side};
-/// use ushanderi_host::rects::Rect;
-/// use ushanderi_host::refusal::Refusal;
+/// use ushanderi_host::{Plane, Rect, Refusal, Side};
 ///
 /// let mut plane = Plane::with_room(100)?;
 /// let trunk = plane.create(Rect::new(0, 0, 10, 100), 1)?;
@@ -49,8 +47,7 @@ impl Plane {
     /// An empty plane that takes so many solids; up to [`MOST_SOLIDS`], or the refusal is [`Refusal::Size`].
     ///
     /// ```
-    /// use ushanderi_host::plane::{Plane, MOST_SOLIDS};
-    /// use ushanderi_host::refusal::Refusal;
+    /// use ushanderi_host::{Plane, Refusal, MOST_SOLIDS};
     ///
     /// assert_eq!(Plane::with_room(400)?.room(), 400);
     /// assert_eq!(Plane::with_room(0)?.room(), 1); // the smallest table takes one
@@ -62,15 +59,14 @@ impl Plane {
             return Err(Refusal::Size);
         }
         let mut plane = Plane { words: vec![0; records_for(solids) * RECORD_WORDS] };
-        plane.clear();
+        plane.fresh();
         Ok(plane)
     }
 
     /// Takes over the words of a table, if they are sound.
     ///
     /// ```
-    /// use ushanderi_host::plane::Plane;
-    /// use ushanderi_host::refusal::Refusal;
+    /// use ushanderi_host::{Plane, Refusal};
     ///
     /// let words = Plane::with_room(3)?.into_words();
     /// assert_eq!(Plane::from_words(words)?.solids(), 0);
@@ -78,8 +74,9 @@ impl Plane {
     /// # Ok::<(), Refusal>(())
     /// ```
     pub fn from_words(words: Vec<i32>) -> Result<Plane, Refusal> {
-        calls::check(&words).result()?;
-        Ok(Plane { words })
+        let plane = Plane { words };
+        plane.check()?;
+        Ok(plane)
     }
 
     /// The table's words.
@@ -102,21 +99,36 @@ impl Plane {
         self.words.len() / RECORD_WORDS
     }
 
-    /// How many solids there are.
-    pub fn solids(&self) -> usize {
-        calls::check(&self.words).result().expect("a plane's table is sound") as usize
+    /// Makes the plane empty.
+    ///
+    /// ```
+    /// use ushanderi_host::{Plane, Rect};
+    ///
+    /// let mut plane = Plane::with_room(10)?;
+    /// plane.create(Rect::new(0, 0, 10, 10), 1)?;
+    /// plane.fresh();
+    /// assert_eq!(plane.solids(), 0);
+    /// # Ok::<(), ushanderi_host::Refusal>(())
+    /// ```
+    pub fn fresh(&mut self) {
+        calls::fresh(&mut self.words).result().expect("a plane's table has a right size");
     }
 
-    /// Makes the plane empty.
-    pub fn clear(&mut self) {
-        calls::fresh(&mut self.words).result().expect("a plane's table has a right size");
+    /// Goes through the whole table: the number of solids if it is sound. A plane's table always is, so a refusal here
+    /// tells that something else has written to this program's memory.
+    pub fn check(&self) -> Result<usize, Refusal> {
+        calls::check(&self.words).result().map(|solids| solids as usize)
+    }
+
+    /// How many solids there are.
+    pub fn solids(&self) -> usize {
+        self.check().expect("a plane's table is sound")
     }
 
     /// The record of the tile that holds the cell.
     ///
     /// ```
-    /// use ushanderi_host::plane::Plane;
-    /// use ushanderi_host::refusal::Refusal;
+    /// use ushanderi_host::{Plane, Refusal};
     ///
     /// let plane = Plane::with_room(10)?;
     /// assert_eq!(plane.find(0, 0)?, 0);
@@ -133,7 +145,17 @@ impl Plane {
         calls::find(&self.words, x, y, hint).result().map(|record| record as usize)
     }
 
-    /// The words of a record, or none where the table has no record of that number.
+    /// The ten words of a record as the table itself shows them; none where it has no record of that number. What the
+    /// words are is said in [`crate::words`].
+    ///
+    /// ```
+    /// use ushanderi_host::Plane;
+    ///
+    /// let plane = Plane::with_room(10)?;
+    /// assert_eq!(plane.view(0), [-16_777_216, -16_777_216, 16_777_216, 16_777_216, -1, -1, -1, -1, 1, 0]);
+    /// assert_eq!(plane.view(plane.records()), []);
+    /// # Ok::<(), ushanderi_host::Refusal>(())
+    /// ```
     pub fn view(&self, record: usize) -> &[i32] {
         calls::view(&self.words, i32::try_from(record).unwrap_or(NO_TILE))
     }
@@ -141,13 +163,12 @@ impl Plane {
     /// The tile in a record, if it holds one.
     ///
     /// ```
-    /// use ushanderi_host::plane::Plane;
-    /// use ushanderi_host::rects::{Rect, Tile};
+    /// use ushanderi_host::{Plane, Rect, Tile};
     ///
     /// let plane = Plane::with_room(10)?;
     /// assert_eq!(plane.tile(0), Some(Tile::space(Rect::PLANE)));
     /// assert_eq!(plane.tile(1), None);
-    /// # Ok::<(), ushanderi_host::refusal::Refusal>(())
+    /// # Ok::<(), ushanderi_host::Refusal>(())
     /// ```
     pub fn tile(&self, record: usize) -> Option<Tile> {
         let words = self.view(record).try_into().ok()?;
@@ -163,15 +184,14 @@ impl Plane {
     /// The records of the tiles along one side of the tile that holds the cell, in the side's order.
     ///
     /// ```
-    /// use ushanderi_host::plane::{Plane, Side};
-    /// use ushanderi_host::rects::Rect;
+    /// use ushanderi_host::{Plane, Rect, Side};
     ///
     /// let mut plane = Plane::with_room(10)?;
     /// let one = plane.create(Rect::new(0, 0, 10, 10), 1)?;
     /// let other = plane.create(Rect::new(10, 0, 20, 10), 2)?;
     /// assert_eq!(plane.neighbours(3, 3, Side::Right)?, [other]);
     /// assert_eq!(plane.neighbours(13, 3, Side::Left)?, [one]);
-    /// # Ok::<(), ushanderi_host::refusal::Refusal>(())
+    /// # Ok::<(), ushanderi_host::Refusal>(())
     /// ```
     pub fn neighbours(&self, x: i32, y: i32, side: Side) -> Result<Vec<usize>, Refusal> {
         self.listed(|list| calls::neighbours(&self.words, x, y, side as i32, list))
@@ -179,24 +199,37 @@ impl Plane {
 
     /// The record of the solid that holds the area's first occupied cell, rows read from the top down and each row
     /// from left to right; nothing if the area is free.
+    ///
+    /// ```
+    /// use ushanderi_host::{Plane, Rect, Refusal};
+    ///
+    /// let mut plane = Plane::with_room(10)?;
+    /// let low = plane.create(Rect::new(0, 0, 10, 10), 1)?;
+    /// let high = plane.create(Rect::new(20, 5, 30, 15), 2)?;
+    /// assert_eq!(plane.search(Rect::new(10, 0, 20, 20))?, None);
+    /// assert_eq!(plane.search(Rect::new(0, 0, 30, 20))?, Some(high));
+    /// assert_eq!(plane.search(Rect::new(0, 0, 30, 5))?, Some(low));
+    /// assert_eq!(plane.search(Rect::new(0, 0, 0, 5)), Err(Refusal::Rect));
+    /// # Ok::<(), Refusal>(())
+    /// ```
     pub fn search(&self, area: Rect) -> Result<Option<usize>, Refusal> {
         let answer = calls::search(&self.words, area.left, area.bottom, area.right, area.top);
         answer.result().map(|record| usize::try_from(record).ok())
     }
 
-    /// The records of the tiles that share a cell with the area, in directed order: each comes after all that touch
-    /// its left side or its top inside the area.
+    /// The records of the tiles that share a cell with the area, in directed order: those that begin at or before the
+    /// area's left are roots, from top to bottom; any other hangs under the tile left of its lowest cell inside the
+    /// area; each is followed by what hangs under it, from top to bottom.
     ///
     /// ```
-    /// use ushanderi_host::plane::Plane;
-    /// use ushanderi_host::rects::Rect;
+    /// use ushanderi_host::{Plane, Rect};
     ///
     /// let mut plane = Plane::with_room(10)?;
     /// let one = plane.create(Rect::new(0, 0, 10, 10), 1)?;
     /// let other = plane.create(Rect::new(20, 0, 30, 10), 2)?;
     /// let gap = plane.find(15, 5)?;
     /// assert_eq!(plane.enumerate(Rect::new(5, 2, 25, 8))?, [one, gap, other]);
-    /// # Ok::<(), ushanderi_host::refusal::Refusal>(())
+    /// # Ok::<(), ushanderi_host::Refusal>(())
     /// ```
     pub fn enumerate(&self, area: Rect) -> Result<Vec<usize>, Refusal> {
         self.listed(|list| calls::enumerate(&self.words, area.left, area.bottom, area.right, area.top, list))
@@ -209,7 +242,20 @@ impl Plane {
         Ok(list[..count as usize].iter().map(|&record| record as usize).collect())
     }
 
-    /// Adds a solid; its record. The solids that are there keep their records.
+    /// Draws a solid; its record. The solids that are there keep their records.
+    ///
+    /// ```
+    /// use ushanderi_host::{Plane, Rect, Refusal};
+    ///
+    /// let mut plane = Plane::with_room(1)?;
+    /// let solid = Rect::new(0, 0, 10, 10);
+    /// assert_eq!(plane.create(solid, 0), Err(Refusal::Label));
+    /// let record = plane.create(solid, 1)?;
+    /// assert_eq!(plane.tile(record).map(|tile| tile.rect), Some(solid));
+    /// assert_eq!(plane.create(Rect::new(9, 3, 12, 4), 2), Err(Refusal::Occupied { by: record }));
+    /// assert_eq!(plane.create(Rect::new(10, 3, 12, 4), 2), Err(Refusal::Full));
+    /// # Ok::<(), Refusal>(())
+    /// ```
     pub fn create(&mut self, rect: Rect, label: i32) -> Result<usize, Refusal> {
         let answer = calls::create(&mut self.words, rect.left, rect.bottom, rect.right, rect.top, label);
         answer.result().map(|record| record as usize)
@@ -218,9 +264,7 @@ impl Plane {
     /// Removes the solid that holds the cell; its label. The other solids keep their records.
     ///
     /// ```
-    /// use ushanderi_host::plane::Plane;
-    /// use ushanderi_host::rects::Rect;
-    /// use ushanderi_host::refusal::Refusal;
+    /// use ushanderi_host::{Plane, Rect, Refusal};
     ///
     /// let mut plane = Plane::with_room(10)?;
     /// plane.create(Rect::new(0, 0, 10, 10), 7)?;
@@ -232,7 +276,7 @@ impl Plane {
         calls::delete(&mut self.words, x, y).result()
     }
 
-    /// The solids as a saved layout.
+    /// The solids as a saved layout: 20 bytes each, highest top first, ties by smaller left.
     pub fn save(&self) -> Vec<u8> {
         let mut bytes = vec![0; self.room() * SAVED_BYTES];
         let count = calls::save(&self.words, &mut bytes).result().expect("a plane can always be saved");
@@ -243,9 +287,7 @@ impl Plane {
     /// Makes the plane that of a saved layout; the number of its solids. If a record is refused, the plane is empty.
     ///
     /// ```
-    /// use ushanderi_host::plane::Plane;
-    /// use ushanderi_host::rects::Rect;
-    /// use ushanderi_host::refusal::{LoadRefusal, Refusal};
+    /// use ushanderi_host::{LoadRefusal, Plane, Rect, Refusal};
     ///
     /// let mut plane = Plane::with_room(10)?;
     /// plane.create(Rect::new(0, 0, 10, 10), 1)?;

@@ -2,6 +2,7 @@
 //! worked out from the list by their definitions; no stitch is ever followed.
 use crate::calls::{number, Answer};
 use crate::words::*;
+use std::fmt;
 
 /// The cells with left <= x < right and bottom <= y < top.
 #[derive(Clone, Copy, Debug, PartialEq, Eq, PartialOrd, Ord)]
@@ -56,6 +57,13 @@ impl Rect {
     }
 }
 
+/// Left, bottom, right, top.
+impl fmt::Display for Rect {
+    fn fmt(&self, out: &mut fmt::Formatter) -> fmt::Result {
+        write!(out, "{} {} {} {}", self.left, self.bottom, self.right, self.top)
+    }
+}
+
 /// A piece of metal.
 #[derive(Clone, Copy, Debug, PartialEq, Eq, PartialOrd, Ord)]
 pub struct Solid {
@@ -96,6 +104,20 @@ impl Tile {
     pub fn of_record(record: &Record) -> Tile {
         let rect = Rect::new(record[LEFT], record[BOTTOM], record[RIGHT], record[TOP]);
         Tile { rect, kind: record[KIND], label: record[LABEL] }
+    }
+}
+
+/// The lister's line, without its end: kind, label, left, bottom, right, top.
+///
+/// ```
+/// use ushanderi_host::{Rect, Tile};
+///
+/// assert_eq!(Tile::solid(Rect::new(0, 0, 10, 10), 1).to_string(), "solid 1 0 0 10 10");
+/// ```
+impl fmt::Display for Tile {
+    fn fmt(&self, out: &mut fmt::Formatter) -> fmt::Result {
+        let kind = if self.is_solid() { "solid" } else { "space" };
+        write!(out, "{kind} {} {}", self.label, self.rect)
     }
 }
 

@@ -7,7 +7,7 @@ use std::fmt;
 ///
 /// ```
 /// use ushanderi_host::calls::{self, Answer};
-/// use ushanderi_host::refusal::Refusal;
+/// use ushanderi_host::Refusal;
 ///
 /// let answer = calls::check(&[0; 190]);
 /// assert_eq!(answer, Answer { number: 1, value: 0 });

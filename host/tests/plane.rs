@@ -1,9 +1,9 @@
 //! `Plane` against the rectangle-list program, through one long history: its methods hand on what the calls answer.
-use ushanderi_host::plane::{Plane, Side};
+use std::collections::HashSet;
+use ushanderi_host::calls::{number, Answer};
 use ushanderi_host::random::Random;
-use ushanderi_host::rects::{tiles, Rect, Solid, Tile};
-use ushanderi_host::refusal::{BadRecord, LoadRefusal, Refusal};
-use ushanderi_host::{answers, asks};
+use ushanderi_host::rects::{tiles, Solid};
+use ushanderi_host::{answers, asks, BadRecord, LoadRefusal, Plane, Rect, Refusal, Side, Tile};
 
 const ROOM: usize = 30;
 const STEPS: usize = 600;
@@ -22,7 +22,7 @@ fn a_long_history() {
         } else {
             create(&mut plane, &mut picture, asks::solid(&all, &mut random));
         }
-        assert_eq!(plane.solids(), picture.len());
+        assert_eq!(plane.check(), Ok(picture.len()));
         ask(&plane, &picture, &mut random);
         come_back(&plane, &picture);
     }
@@ -66,8 +66,28 @@ fn come_back(plane: &Plane, picture: &[Solid]) {
     let mut copy = Plane::with_room(ROOM).expect("a table of this size");
     assert_eq!(copy.load(&bytes), Ok(picture.len()));
     assert_eq!(copy.save(), bytes);
-    let same = Plane::from_words(copy.into_words()).expect("a plane's words are sound");
+    let mut same = Plane::from_words(copy.into_words()).expect("a plane's words are sound");
     assert_eq!(same.solids(), picture.len());
+    same.fresh();
+    assert_eq!(same.tile(0), Some(Tile::space(Rect::PLANE)));
+    assert_eq!(same.save(), []);
+}
+
+/// The numbers and the words of refusals: a number without a refusal of its own would show here.
+#[test]
+fn every_refusal_has_its_words() {
+    let refused = |number: usize| Answer { number: number as i32, value: 5 };
+    let refusals = (1..number::NAMES.len()).map(|number| refused(number).result().expect_err("a refusal"));
+    let words: HashSet<String> = refusals.map(|refusal| refusal.to_string()).collect();
+    assert_eq!(words.len(), number::NAMES.len() - 1);
+    assert_eq!(refused(6).result(), Err(Refusal::Occupied { by: 5 }));
+    assert_eq!(refused(10).result(), Err(Refusal::Short { needed: 5 }));
+
+    let loads = (1..number::NAMES.len()).map(|number| refused(number).load_result().expect_err("a refusal"));
+    let bad = loads.filter(|refusal| matches!(refusal, LoadRefusal::Record { index: 5, .. }));
+    let words: Vec<String> = bad.map(|refusal| refusal.to_string()).collect();
+    assert_eq!(words.len(), 4);
+    assert!(words.iter().all(|words| words.starts_with("saved record 5 ")));
 }
 
 #[test]

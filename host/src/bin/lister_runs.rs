@@ -10,7 +10,7 @@ use ushanderi_host::answers::{self, RefusedLoad};
 use ushanderi_host::layouts::{clock_tree, A, B, C};
 use ushanderi_host::pictures::{picture, workload, STYLES};
 use ushanderi_host::random::Random;
-use ushanderi_host::rects::{tiles, Rect, Solid, Tile};
+use ushanderi_host::rects::{tiles, Rect, Solid};
 use ushanderi_host::tally::agree;
 use ushanderi_host::words::EDGE;
 
@@ -119,15 +119,9 @@ fn listing(bytes: &[u8]) -> String {
         Err(RefusedLoad { number, index }) => format!("refused {number} {index}\n"),
         Ok(solids) => {
             let listed = answers::enumerate(&tiles(&solids), &Rect::PLANE).expect("the plane is an area");
-            listed.iter().map(line).collect()
+            listed.iter().map(|tile| format!("{tile}\n")).collect()
         }
     }
-}
-
-fn line(tile: &Tile) -> String {
-    let Rect { left, bottom, right, top } = tile.rect;
-    let kind = if tile.is_solid() { "solid" } else { "space" };
-    format!("{kind} {} {left} {bottom} {right} {top}\n", tile.label)
 }
 
 fn run(lister: &str, bytes: &[u8]) -> Result<String, String> {

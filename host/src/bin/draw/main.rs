@@ -2,16 +2,20 @@
 //!
 //! `draw [FILE] [--stitches] [--area L B R T] [--view L B R T]` reads standard input where no file is named. Solids are
 //! coloured by their labels, space strips are faint. `--stitches` adds the stitches as small arrows, `--area` marks an
-//! area and numbers its tiles in directed order, `--view` says what part of the plane is shown.
+//! area and numbers its tiles in directed order, `--view` says what part of the plane is shown: otherwise the area, or
+//! all solids.
 #![forbid(unsafe_code)]
 
 mod canvas;
+mod colours;
+mod numbers;
 mod options;
 mod picture;
+mod stitches;
 
 use options::Options;
 use std::process::ExitCode;
-use ushanderi_host::plane::{Plane, MOST_SOLIDS};
+use ushanderi_host::{Plane, MOST_SOLIDS};
 
 fn main() -> ExitCode {
     match svg() {
@@ -30,5 +34,5 @@ fn svg() -> Result<String, String> {
     let options = Options::parse(std::env::args().skip(1))?;
     let mut plane = Plane::with_room(MOST_SOLIDS).map_err(|refusal| refusal.to_string())?;
     plane.load(&options.bytes()?).map_err(|refusal| refusal.to_string())?;
-    picture::draw(&plane, &options)
+    picture::draw(&plane, &options).map_err(|refusal| refusal.to_string())
 }

@@ -1,7 +1,7 @@
 //! What the command line asks for.
 use std::fs;
 use std::io::{self, Read};
-use ushanderi_host::rects::Rect;
+use ushanderi_host::Rect;
 
 const USAGE: &str = "usage: draw [FILE] [--stitches] [--area L B R T] [--view L B R T]";
 
@@ -44,7 +44,7 @@ fn rect(arguments: &mut impl Iterator<Item = String>) -> Result<Rect, String> {
     let mut edge = || arguments.next().and_then(|word| word.parse().ok()).ok_or(format!("four edges\n{USAGE}"));
     let rect = Rect::new(edge()?, edge()?, edge()?, edge()?);
     if !rect.keeps_limits() {
-        return Err(format!("{rect:?} is no part of the plane"));
+        return Err(format!("{rect} is no part of the plane"));
     }
     Ok(rect)
 }

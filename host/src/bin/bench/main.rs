@@ -1,12 +1,18 @@
 //! How long each call takes, as ratios to the same method in plain Rust and to the rectangle-list program, at three
 //! sizes. All three are timed in turns within one run, so that what disturbs one disturbs the others. The feature
 //! `inner` adds the calls' inner work, without the check of the table.
+//!
+//! `bench [--markdown] [--quick]`: `--markdown` prints the ratios alone, as the README quotes them; `--quick` takes so
+//! few samples that it tells only whether everything still runs.
 mod calls;
 #[cfg(feature = "inner")]
 mod inner;
+mod report;
 mod timing;
 mod work;
 
+use report::Form;
+use std::process::ExitCode;
 use timing::Medians;
 use work::Work;
 
@@ -16,38 +22,32 @@ const SIZES: [usize; 3] = [10, 100, 1_000];
 /// A call's name, and what measures it on a table.
 type Measure = (&'static str, fn(&Work) -> Medians);
 
-fn main() {
+fn main() -> ExitCode {
+    let mut form = Form::Times;
+    for argument in std::env::args().skip(1) {
+        match argument.as_str() {
+            "--markdown" => form = Form::Markdown,
+            "--quick" => timing::be_quick(),
+            _ => {
+                eprintln!("usage: bench [--markdown] [--quick]");
+                return ExitCode::from(2);
+            }
+        }
+    }
     let works = SIZES.map(Work::new);
-    println!("Median times of one call. The list is not checked by anyone. Growth is against the size before.");
-    table("whole call", "list", &calls::MEASURES, &works);
-    table("whole call", "pass", &calls::CHECK_AND_PASS, &works);
+    form.begin();
+    table(form, "whole call", "list", &calls::MEASURES, &works);
+    table(form, "whole call", "pass", &calls::CHECK_AND_PASS, &works);
     #[cfg(feature = "inner")]
-    table("inner work", "list", &inner::MEASURES, &works);
+    table(form, "inner work", "list", &inner::MEASURES, &works);
+    ExitCode::SUCCESS
 }
 
-/// What the third column is about has no stitches: the rectangle list, or one pass over the table's words.
-fn table(title: &str, third: &str, measures: &[Measure], works: &[Work]) {
-    println!(
-        "\n{title:>11} {:>7} {:>12} {:>12} {third:>12} {:>9} {:>9} {:>8}",
-        "solids",
-        "server",
-        "plain",
-        "to plain",
-        format!("to {third}"),
-        "growth"
-    );
+/// What the third program is has no stitches: the rectangle list, or one pass over the table's words.
+fn table(form: Form, title: &str, third: &str, measures: &[Measure], works: &[Work]) {
+    form.head(title, third);
     for (call, measure) in measures {
-        let mut before: Option<f64> = None;
-        for work in works {
-            let Medians { server, plain, list } = measure(work);
-            let growth = before.map_or(String::new(), |before| format!("{:.1}", server / before));
-            println!(
-                "{call:>11} {:>7} {server:>9.2} us {plain:>9.2} us {list:>9.2} us {:>9.2} {:>9.3} {growth:>8}",
-                work.solids.len(),
-                server / plain,
-                server / list,
-            );
-            before = Some(server);
-        }
+        let medians: Vec<Medians> = works.iter().map(measure).collect();
+        form.row(call, &medians);
     }
 }

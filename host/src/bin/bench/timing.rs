@@ -1,9 +1,11 @@
 //! Medians of interleaved samples.
 use std::hint::black_box;
+use std::sync::atomic::{AtomicBool, Ordering};
 use std::time::Instant;
 
 const ROUNDS: usize = 61;
 const WARM_UP: usize = 6;
+const QUICK_ROUNDS: usize = 3;
 /// How long a sample takes about, so that the clock's own time does not count.
 const SAMPLE_SECONDS: f64 = 200e-6;
 const MOST_REPEATS: usize = 256;
@@ -40,14 +42,22 @@ pub fn on_copies<T: Clone>(times: usize, original: &T, mut call: impl FnMut(&mut
     start.elapsed().as_secs_f64()
 }
 
+static QUICK: AtomicBool = AtomicBool::new(false);
+
+/// From now on only a few samples are taken.
+pub fn be_quick() {
+    QUICK.store(true, Ordering::Relaxed);
+}
+
 pub fn medians<'a>(server: Sample<'a>, plain: Sample<'a>, list: Sample<'a>) -> Medians {
     let mut samples = [server, plain, list];
     let repeats = samples.each_mut().map(repeats);
     let mut times = [const { Vec::new() }; 3];
-    for round in 0..WARM_UP + ROUNDS {
+    let (warm_up, rounds) = if QUICK.load(Ordering::Relaxed) { (0, QUICK_ROUNDS) } else { (WARM_UP, ROUNDS) };
+    for round in 0..warm_up + rounds {
         for ((sample, &repeats), times) in samples.iter_mut().zip(&repeats).zip(&mut times) {
             let microseconds = sample(repeats) * 1e6 / repeats as f64;
-            if round >= WARM_UP {
+            if round >= warm_up {
                 times.push(microseconds);
             }
         }

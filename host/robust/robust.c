@@ -1,11 +1,8 @@
 /* The robustness run from C: all eleven calls on memory that ends, or begins, at a page that nobody may touch. What is
  * lent for reading lies in pages that cannot be written meanwhile. So a read or write outside the lent slices, or a
  * write to a slice lent for reading, ends the program; that holds for the archive's code too, which the sanitizers do
- * not see. The host's own side is built with the address and the undefined behaviour sanitizer. From the folder above:
- *
- *   gcc -std=c11 -g -O1 -Wall -Wextra -Werror -fsanitize=address,undefined -fno-sanitize-recover=all -I. \
- *       robust/robust.c ../target/staticlib/libushanderi.a -o ../target/robust_c
- *   ../target/robust_c [ROUNDS] */
+ * not see. The host's own side is built with the address and the undefined behaviour sanitizer. `robust/run` builds it
+ * and runs `robust_c [CALLS]`. */
 #define _DEFAULT_SOURCE
 #include "ushanderi.h"
 
@@ -15,7 +12,7 @@
 #include <sys/mman.h>
 #include <unistd.h>
 
-enum { CALLS = 10, ANSWERS = 13, CALLS_ON_A_TABLE = 40, MOST_WORDS = 40200, MOST_LIST = 5000 };
+enum { ANSWERS = 13, TURNS = 4, MOST_WORDS = 40200, MOST_LIST = 5000 };
 
 /* A run of pages between two that cannot be touched, and the items lent, which begin or end there. */
 struct ward {
@@ -25,14 +22,23 @@ struct ward {
     size_t bytes;
 };
 
+/* A call with random numbers, which looks at the answer if it is DONE. */
+struct call {
+    const char *name;
+    ush_answer (*make)(void);
+    int writes_table;
+    size_t entry_bytes; /* of each entry that it writes to the list, as many as its value says */
+    long counts[ANSWERS];
+};
+
 static struct ward table, list;
 static int32_t before[MOST_WORDS];
 static unsigned char list_before[4 * MOST_LIST];
-static uint64_t state = 1;
-static long counts[CALLS][ANSWERS];
+static uint64_t state;
+static long seed;
 
-static const char *const call_names[CALLS] = {
-    "fresh", "check", "find", "neighbours", "search", "enumerate", "create", "delete", "save", "load",
+static const char *const answer_names[ANSWERS] = {
+    "DONE", "SIZE", "UNSOUND", "POINT", "RECT", "LABEL", "OCCUPIED", "FULL", "SPACE", "SIDE", "SHORT", "FILE", "ROOM",
 };
 
 static uint32_t random_word(void)
@@ -48,10 +54,12 @@ static uint32_t below(uint32_t bound)
     return random_word() % bound;
 }
 
-static void fail(const char *message)
+static void must(int condition, const char *message)
 {
-    fprintf(stderr, "DISAGREEMENT: %s\n", message);
-    exit(1);
+    if (!condition) {
+        fprintf(stderr, "DISAGREEMENT: seed %ld, %s\n", seed, message);
+        exit(1);
+    }
 }
 
 static struct ward make_ward(size_t bytes)
@@ -59,9 +67,7 @@ static struct ward make_ward(size_t bytes)
     size_t page = (size_t)sysconf(_SC_PAGESIZE);
     size_t size = (bytes + page - 1) / page * page;
     unsigned char *all = mmap(NULL, size + 2 * page, PROT_NONE, MAP_PRIVATE | MAP_ANONYMOUS, -1, 0);
-    if (all == MAP_FAILED || mprotect(all + page, size, PROT_READ | PROT_WRITE) != 0) {
-        fail("no memory");
-    }
+    must(all != MAP_FAILED && mprotect(all + page, size, PROT_READ | PROT_WRITE) == 0, "no memory");
     return (struct ward){all + page, size, all + page, 0};
 }
 
@@ -74,9 +80,8 @@ static void place(struct ward *ward, size_t bytes)
 
 static void protect(const struct ward *ward, int reading_only)
 {
-    if (mprotect(ward->pages, ward->size, reading_only ? PROT_READ : PROT_READ | PROT_WRITE) != 0) {
-        fail("protection refused");
-    }
+    int allowed = reading_only ? PROT_READ : PROT_READ | PROT_WRITE;
+    must(mprotect(ward->pages, ward->size, allowed) == 0, "protection refused");
 }
 
 static int32_t *words(void)
@@ -110,7 +115,7 @@ static int32_t edge_after(int32_t edge)
     return below(8) ? (int32_t)((uint32_t)edge + 1 + below(below(2) ? 9 : 40)) : coordinate();
 }
 
-static ush_answer create_one(void)
+static ush_answer create(void)
 {
     int32_t left = coordinate(), bottom = coordinate();
     return ush_create(words(), word_count(), left, bottom, edge_after(left), edge_after(bottom), (int32_t)below(9));
@@ -152,7 +157,7 @@ static void draw_table(void)
     }
     if (below(10) != 0 && ush_fresh(words(), size).number == USH_DONE) {
         for (uint32_t solids = below(40); solids > 0; solids--) {
-            create_one();
+            create();
         }
     }
     if (size > 0 && below(3) == 0) {
@@ -175,112 +180,186 @@ static void draw_bytes(void)
     }
 }
 
-static ush_answer ask(int call)
+static const int32_t *record(int32_t number)
 {
-    const int32_t *lent = words();
-    size_t size = word_count(), room = list.bytes / sizeof(int32_t);
-    int32_t *entries = (int32_t *)(void *)list.items;
-    int32_t x = coordinate(), y = coordinate(), right = edge_after(x), top = edge_after(y);
-    switch (call) {
-    case 1:
-        return ush_check(lent, size);
-    case 2:
-        return ush_find(lent, size, x, y, coordinate());
-    case 3:
-        return ush_neighbours(lent, size, x, y, (int32_t)below(6) - 1, entries, room);
-    case 4:
-        return ush_search(lent, size, x, y, right, top);
-    case 5:
-        return ush_enumerate(lent, size, x, y, right, top, entries, room);
-    default:
-        return ush_save(lent, size, list.items, list.bytes);
-    }
+    must(number >= 0 && (size_t)number < word_count() / USH_RECORD_WORDS, "an answer names no record");
+    return words() + (size_t)number * USH_RECORD_WORDS;
 }
 
-/* The calls that only read the table; a refusal leaves the list as it was. */
-static ush_answer try_reading(int call)
+/* Whether the tile in the record shares a cell with the area. */
+static int meets(int32_t number, int32_t left, int32_t bottom, int32_t right, int32_t top)
 {
-    draw_list();
-    memcpy(list_before, list.items, list.bytes);
-    protect(&table, 1);
-    ush_answer answer = ask(call);
-    ush_part part = ush_view(words(), word_count(), coordinate());
-    protect(&table, 0);
-    if (answer.number != USH_DONE && memcmp(list_before, list.items, list.bytes) != 0) {
-        fail("a refused call wrote to the list");
-    }
-    if (part.len != 0 && (part.len != USH_RECORD_WORDS || part.at + part.len > word_count())) {
-        fail("view names no part of the table");
+    const int32_t *tile = record(number);
+    return tile[USH_WORD_KIND] != USH_KIND_FREE && tile[USH_WORD_LEFT] < right && left < tile[USH_WORD_RIGHT]
+        && tile[USH_WORD_BOTTOM] < top && bottom < tile[USH_WORD_TOP];
+}
+
+static int32_t *entries(void)
+{
+    return (int32_t *)(void *)list.items;
+}
+
+static size_t entry_room(void)
+{
+    return list.bytes / sizeof(int32_t);
+}
+
+static ush_answer fresh(void)
+{
+    return ush_fresh(words(), word_count());
+}
+
+static ush_answer check(void)
+{
+    return ush_check(words(), word_count());
+}
+
+static ush_answer find(void)
+{
+    int32_t x = coordinate(), y = coordinate();
+    ush_answer answer = ush_find(words(), word_count(), x, y, coordinate());
+    must(answer.number != USH_DONE || meets(answer.value, x, y, x + 1, y + 1), "the found tile does not hold the cell");
+    return answer;
+}
+
+/* View has no answer number; it counts as DONE. */
+static ush_answer view(void)
+{
+    int32_t number = below(2) ? coordinate() : (int32_t)below(1600);
+    ush_part part = ush_view(words(), word_count(), number);
+    must(part.len == 0 || (part.at == (size_t)number * USH_RECORD_WORDS && part.len == USH_RECORD_WORDS
+                           && part.at + part.len <= word_count()), "view names no part of the table");
+    return (ush_answer){USH_DONE, 0};
+}
+
+static ush_answer neighbours(void)
+{
+    int32_t x = coordinate(), y = coordinate();
+    ush_answer answer =
+        ush_neighbours(words(), word_count(), x, y, (int32_t)below(6) - 1, entries(), entry_room());
+    for (int32_t entry = 0; answer.number == USH_DONE && entry < answer.value; entry++) {
+        must(record(entries()[entry])[USH_WORD_KIND] != USH_KIND_FREE, "a neighbour is no tile");
     }
     return answer;
 }
 
-static ush_answer edit(int call)
+static ush_answer search(void)
 {
-    switch (call) {
-    case 0:
-        return ush_fresh(words(), word_count());
-    case 6:
-        return create_one();
-    case 7:
-        return ush_delete(words(), word_count(), coordinate(), coordinate());
-    default:
-        return ush_load(words(), word_count(), list.items, list.bytes);
+    int32_t left = coordinate(), bottom = coordinate(), right = edge_after(left), top = edge_after(bottom);
+    ush_answer answer = ush_search(words(), word_count(), left, bottom, right, top);
+    if (answer.number == USH_DONE && answer.value != -1) {
+        must(record(answer.value)[USH_WORD_KIND] == USH_KIND_SOLID, "what is in the way is no solid");
+        must(meets(answer.value, left, bottom, right, top), "what is in the way is not in the area");
     }
+    return answer;
 }
 
-/* The calls that write; a refusal leaves the table as it was, but for a load of which a record was refused. */
-static ush_answer try_editing(int call)
+static ush_answer enumerate(void)
+{
+    int32_t left = coordinate(), bottom = coordinate(), right = edge_after(left), top = edge_after(bottom);
+    ush_answer answer =
+        ush_enumerate(words(), word_count(), left, bottom, right, top, entries(), entry_room());
+    for (int32_t entry = 0; answer.number == USH_DONE && entry < answer.value; entry++) {
+        must(meets(entries()[entry], left, bottom, right, top), "a listed tile is not in the area");
+    }
+    return answer;
+}
+
+static ush_answer delete(void)
+{
+    return ush_delete(words(), word_count(), coordinate(), coordinate());
+}
+
+static ush_answer save(void)
+{
+    return ush_save(words(), word_count(), list.items, list.bytes);
+}
+
+static ush_answer load(void)
+{
+    return ush_load(words(), word_count(), list.items, list.bytes);
+}
+
+static struct call calls[] = {
+    {"fresh", fresh, 1, 0, {0}},
+    {"check", check, 0, 0, {0}},
+    {"find", find, 0, 0, {0}},
+    {"view", view, 0, 0, {0}},
+    {"neighbours", neighbours, 0, sizeof(int32_t), {0}},
+    {"search", search, 0, 0, {0}},
+    {"enumerate", enumerate, 0, sizeof(int32_t), {0}},
+    {"create", create, 1, 0, {0}},
+    {"delete", delete, 1, 0, {0}},
+    {"save", save, 0, 1, {0}},
+    {"load", load, 1, 0, {0}},
+};
+enum { CALLS = sizeof calls / sizeof *calls };
+
+/* The calls that only read the table. Of the list they write as many entries as they say, and none with a refusal. */
+static ush_answer try_reading(const struct call *call)
+{
+    draw_list();
+    memcpy(list_before, list.items, list.bytes);
+    protect(&table, 1);
+    ush_answer answer = call->make();
+    protect(&table, 0);
+    size_t written = answer.number == USH_DONE ? (size_t)answer.value * call->entry_bytes : 0;
+    must(written <= list.bytes, "more entries than the list takes");
+    must(memcmp(list_before + written, list.items + written, list.bytes - written) == 0,
+         "written to the list where nothing is promised");
+    return answer;
+}
+
+/* The calls that write it; a refusal leaves the table as it was, but for a load of which a record was refused. */
+static ush_answer try_editing(const struct call *call)
 {
     draw_bytes();
     memcpy(before, table.items, table.bytes);
     protect(&list, 1);
-    ush_answer answer = edit(call);
+    ush_answer answer = call->make();
     protect(&list, 0);
-    int emptied = call == 9 && answer.number >= USH_RECT && answer.number <= USH_FULL;
-    if (answer.number != USH_DONE && !emptied && memcmp(before, table.items, table.bytes) != 0) {
-        fail("a refused call wrote to the table");
+    int emptied = call->make == load && answer.number >= USH_RECT && answer.number <= USH_FULL;
+    if (answer.number == USH_DONE || emptied) {
+        must(ush_check(words(), word_count()).number == USH_DONE, "an edit left the table unsound");
+    } else {
+        must(memcmp(before, table.items, table.bytes) == 0, "a refused call wrote to the table");
     }
-    if ((answer.number == USH_DONE || emptied) && ush_check(words(), word_count()).number != USH_DONE) {
-        fail("an edit left the table unsound");
-    }
-    if (call == 0 || call == 9) {
+    if (call->make == fresh || call->make == load) {
         memcpy(table.items, before, table.bytes);
     }
     return answer;
 }
 
-static void report(long rounds)
+static void report(long tables)
 {
-    for (int call = 0; call < CALLS; call++) {
-        printf("%-10s", call_names[call]);
+    for (const struct call *call = calls; call < calls + CALLS; call++) {
+        printf("%10s:", call->name);
         for (int number = 0; number < ANSWERS; number++) {
-            printf(" %ld", counts[call][number]);
+            if (call->counts[number] > 0) {
+                printf(" %ld %s", call->counts[number], answer_names[number]);
+            }
         }
         printf("\n");
     }
-    printf("%ld tables, %ld calls beside those of view, each answer's number counted from 0 to 12\n", rounds,
-           rounds * CALLS_ON_A_TABLE);
+    printf("%ld tables, %ld calls, no disagreement\n", tables, tables * CALLS * TURNS);
 }
 
 int main(int count, char **arguments)
 {
-    long rounds = count > 1 ? atol(arguments[1]) : 20000;
+    long wanted = count > 1 ? atol(arguments[1]) : 1000000;
+    long tables = (wanted + CALLS * TURNS - 1) / (CALLS * TURNS);
     table = make_ward(MOST_WORDS * sizeof(int32_t));
     list = make_ward(MOST_LIST * sizeof(int32_t));
-    for (long round = 0; round < rounds; round++) {
-        state = (uint64_t)round << 20;
+    for (seed = 0; seed < tables; seed++) {
+        state = (uint64_t)seed << 20;
         draw_table();
-        for (int turn = 0; turn < CALLS_ON_A_TABLE; turn++) {
-            int call = turn % CALLS;
-            int writes = call == 0 || call == 6 || call == 7 || call == 9;
-            ush_answer answer = writes ? try_editing(call) : try_reading(call);
-            if (answer.number < 0 || answer.number >= ANSWERS) {
-                fail("a number that no answer has");
-            }
-            counts[call][answer.number]++;
+        for (int turn = 0; turn < CALLS * TURNS; turn++) {
+            struct call *call = &calls[turn % CALLS];
+            ush_answer answer = call->writes_table ? try_editing(call) : try_reading(call);
+            must(answer.number >= 0 && answer.number < ANSWERS, "a number that no answer has");
+            call->counts[answer.number]++;
         }
     }
-    report(rounds);
+    report(tables);
     return 0;
 }

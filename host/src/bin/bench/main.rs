@@ -1,6 +1,6 @@
 //! How long each call takes, as ratios to the same method in plain Rust and to the rectangle-list program, at three
-//! sizes. All three are timed in turns within one run, so that what disturbs one disturbs the others. The feature
-//! `inner` adds the calls' inner work, without the check of the table.
+//! sizes. All three, and all sizes, are timed in turns within one run, so that what disturbs one disturbs the others.
+//! The feature `inner` adds the calls' inner work, without the check of the table.
 //!
 //! `bench [--markdown] [--quick]`: `--markdown` prints the ratios alone, as the README quotes them; `--quick` takes so
 //! few samples that it tells only whether everything still runs.
@@ -47,7 +47,10 @@ fn main() -> ExitCode {
 fn table(form: Form, title: &str, third: &str, measures: &[Measure], works: &[Work]) {
     form.head(title, third);
     for (call, measure) in measures {
-        let medians: Vec<Medians> = works.iter().map(measure).collect();
-        form.row(call, &medians);
+        let mut passes = [const { Vec::new() }; SIZES.len()];
+        for _ in 0..timing::passes() {
+            works.iter().zip(&mut passes).for_each(|(work, passes)| passes.push(measure(work)));
+        }
+        form.row(call, &passes);
     }
 }

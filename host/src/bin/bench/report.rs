@@ -1,5 +1,5 @@
 //! The measured times as tables: one line for each size with times and ratios, or one for each call with ratios alone.
-use crate::timing::Medians;
+use crate::timing::{median, Medians};
 use crate::SIZES;
 
 #[derive(Clone, Copy)]
@@ -35,33 +35,36 @@ impl Form {
         }
     }
 
-    /// One call at all sizes.
-    pub fn row(self, call: &str, medians: &[Medians]) {
-        let before = std::iter::once(None).chain(medians.iter().map(|medians| Some(medians.server)));
-        let growth = medians.iter().zip(before).map(|(now, before)| before.map(|before| now.server / before));
+    /// One call: its passes at each size.
+    pub fn row(self, call: &str, passes: &[Vec<Medians>]) {
+        let medians: Vec<Medians> = passes.iter().map(|passes| Medians::of_passes(passes)).collect();
+        let growth: Vec<f64> = passes.windows(2).map(|sizes| growth(&sizes[0], &sizes[1])).collect();
         match self {
             Form::Times => {
+                let growth = std::iter::once(String::new()).chain(growth.iter().map(|growth| format!("{growth:.1}")));
                 for ((medians, growth), solids) in medians.iter().zip(growth).zip(SIZES) {
-                    print_times(call, solids, medians, growth);
+                    print_times(call, solids, medians, &growth);
                 }
             }
             Form::Markdown => {
-                let to_plain = medians.iter().map(|medians| medians.server / medians.plain);
-                let to_third = medians.iter().map(|medians| medians.server / medians.list);
-                let ratios: Vec<String> = to_plain.chain(to_third).chain(growth.flatten()).map(short).collect();
+                let to_plain = medians.iter().map(|medians| medians.to_plain);
+                let to_third = medians.iter().map(|medians| medians.to_list);
+                let ratios: Vec<String> = to_plain.chain(to_third).chain(growth).map(short).collect();
                 println!("| {call} | {} |", ratios.join(" | "));
             }
         }
     }
 }
 
-fn print_times(call: &str, solids: usize, medians: &Medians, growth: Option<f64>) {
-    let Medians { server, plain, list } = medians;
-    let growth = growth.map_or(String::new(), |growth| format!("{growth:.1}"));
+/// From one size to the next, within each pass.
+fn growth(smaller: &[Medians], larger: &[Medians]) -> f64 {
+    median(smaller.iter().zip(larger).map(|(smaller, larger)| larger.server / smaller.server))
+}
+
+fn print_times(call: &str, solids: usize, medians: &Medians, growth: &str) {
+    let Medians { server, plain, list, to_plain, to_list } = medians;
     println!(
-        "{call:>11} {solids:>7} {server:>9.2} us {plain:>9.2} us {list:>9.2} us {:>9.2} {:>9.3} {growth:>8}",
-        server / plain,
-        server / list,
+        "{call:>11} {solids:>7} {server:>9.2} us {plain:>9.2} us {list:>9.2} us {to_plain:>9.2} {to_list:>9.3} {growth:>8}"
     );
 }
 

@@ -1,20 +1,55 @@
-//! Medians of interleaved samples.
+//! Medians of interleaved samples: the three programs take turns within a pass, and the sizes from pass to pass.
 use std::hint::black_box;
 use std::sync::atomic::{AtomicBool, Ordering};
 use std::time::Instant;
 
-const ROUNDS: usize = 61;
-const WARM_UP: usize = 6;
-const QUICK_ROUNDS: usize = 3;
+const PASSES: usize = 7;
+/// Of a pass; those that warm up are not counted.
+const ROUNDS: usize = 11;
+const WARM_UP: usize = 2;
+const QUICK_ROUNDS: usize = 2;
 /// How long a sample takes about, so that the clock's own time does not count.
 const SAMPLE_SECONDS: f64 = 200e-6;
 const MOST_REPEATS: usize = 256;
 
-/// The median times of one call, in microseconds.
+/// The median times of one call, in microseconds, and the medians of the ratios of samples taken right after each
+/// other, which a disturbance that lasts longer than a sample does not change.
 pub struct Medians {
     pub server: f64,
     pub plain: f64,
     pub list: f64,
+    pub to_plain: f64,
+    pub to_list: f64,
+}
+
+impl Medians {
+    fn of_rounds(rounds: &[[f64; 3]]) -> Medians {
+        let of = |figure: fn(&[f64; 3]) -> f64| median(rounds.iter().map(figure));
+        Medians {
+            server: of(|[server, _, _]| *server),
+            plain: of(|[_, plain, _]| *plain),
+            list: of(|[_, _, list]| *list),
+            to_plain: of(|[server, plain, _]| server / plain),
+            to_list: of(|[server, _, list]| server / list),
+        }
+    }
+
+    pub fn of_passes(passes: &[Medians]) -> Medians {
+        let of = |figure: fn(&Medians) -> f64| median(passes.iter().map(figure));
+        Medians {
+            server: of(|pass| pass.server),
+            plain: of(|pass| pass.plain),
+            list: of(|pass| pass.list),
+            to_plain: of(|pass| pass.to_plain),
+            to_list: of(|pass| pass.to_list),
+        }
+    }
+}
+
+pub fn median(figures: impl Iterator<Item = f64>) -> f64 {
+    let mut figures: Vec<f64> = figures.collect();
+    figures.sort_by(f64::total_cmp);
+    figures[figures.len() / 2]
 }
 
 /// Makes so many calls and gives the seconds that they took together.
@@ -49,24 +84,27 @@ pub fn be_quick() {
     QUICK.store(true, Ordering::Relaxed);
 }
 
+fn quick() -> bool {
+    QUICK.load(Ordering::Relaxed)
+}
+
+/// How often every size has its turn.
+pub fn passes() -> usize {
+    if quick() {
+        1
+    } else {
+        PASSES
+    }
+}
+
 pub fn medians<'a>(server: Sample<'a>, plain: Sample<'a>, list: Sample<'a>) -> Medians {
     let mut samples = [server, plain, list];
     let repeats = samples.each_mut().map(repeats);
-    let mut times = [const { Vec::new() }; 3];
-    let (warm_up, rounds) = if QUICK.load(Ordering::Relaxed) { (0, QUICK_ROUNDS) } else { (WARM_UP, ROUNDS) };
-    for round in 0..warm_up + rounds {
-        for ((sample, &repeats), times) in samples.iter_mut().zip(&repeats).zip(&mut times) {
-            let microseconds = sample(repeats) * 1e6 / repeats as f64;
-            if round >= warm_up {
-                times.push(microseconds);
-            }
-        }
-    }
-    let [server, plain, list] = times.map(|mut times| {
-        times.sort_by(f64::total_cmp);
-        times[times.len() / 2]
-    });
-    Medians { server, plain, list }
+    let (warm_up, rounds) = if quick() { (0, QUICK_ROUNDS) } else { (WARM_UP, ROUNDS) };
+    let mut round =
+        || std::array::from_fn(|program| samples[program](repeats[program]) * 1e6 / repeats[program] as f64);
+    (0..warm_up).for_each(|_| consumed(round()));
+    Medians::of_rounds(&(0..rounds).map(|_| round()).collect::<Vec<_>>())
 }
 
 fn repeats(sample: &mut Sample) -> usize {

@@ -42,15 +42,14 @@ impl<'a> Editor<'a> {
         Editor { table, next_free: 0 }
     }
 
-    /// Adds a solid to a table with so many, unless a rule forbids it.
-    pub fn create_if_allowed(&mut self, solids: usize, rect: &Rect, label: i32) -> Answer {
+    /// Adds a solid to a table with so many, unless a rule forbids it. Looks for its place from a tile on.
+    pub fn create_if_allowed(&mut self, from: usize, solids: usize, rect: &Rect, label: i32) -> Answer {
         if !rect.keeps_limits() {
             return Answer::refused(number::RECT);
         }
         if label < 1 {
             return Answer::refused(number::LABEL);
         }
-        let from = seek::start(self.table, NO_TILE);
         if let Some(blocker) = seek::search(self.table, from, rect) {
             return Answer::with(number::OCCUPIED, blocker);
         }

@@ -116,7 +116,9 @@ pub fn create(words: &mut [i32], left: i32, bottom: i32, right: i32, top: i32, l
         Ok((_, solids)) => solids,
         Err(refusal) => return refusal,
     };
-    edit::Editor::new(records_mut(words)).create_if_allowed(solids, &rect, label)
+    let table = records_mut(words);
+    let from = seek::start(table, NO_TILE);
+    edit::Editor::new(table).create_if_allowed(from, solids, &rect, label)
 }
 
 /// Removes the solid that holds the cell; value: its label.

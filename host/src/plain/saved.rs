@@ -25,14 +25,16 @@ pub fn write(table: &[Record], bytes: &mut [u8]) {
 pub fn read(table: &mut [Record], bytes: &[u8]) -> Answer {
     wipe_all(table);
     let mut editor = Editor::new(table);
+    let mut last = 0;
     let saved = bytes.as_chunks::<SAVED_BYTES>().0;
     for (index, record) in saved.iter().enumerate() {
         let [left, bottom, right, top, label] = words_of(record);
-        let answer = editor.create_if_allowed(index, &Rect { left, bottom, right, top }, label);
+        let answer = editor.create_if_allowed(last, index, &Rect { left, bottom, right, top }, label);
         if answer.number != number::DONE {
             wipe_all(table);
             return Answer::with(answer.number, index);
         }
+        last = answer.value as usize;
     }
     Answer::done(saved.len())
 }

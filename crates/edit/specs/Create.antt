@@ -12,8 +12,8 @@ use Rattle.geometry.specs.Tiling.{used-is}
 use Rattle.table.specs.Words.{LEFT, BOTTOM, RIGHT, TOP, KIND, LABEL, recordsOf, num, tileOf}
 use Rattle.table.specs.Sound.{SizeRight, UsedIn, capacity, solidsIn}
 use Rattle.table.specs.Forms.{Forms}
-use Rattle.edit.specs.Steps.{FreeIn, Painted, Joins, Joined}
-use Rattle.edit.specs.Tidy.{Tidy, Solid, SpaceIn, tidy-forms, forms-tidy, solid-is, flag-solid, space-in, kind-cases, Kept, Keeps, same-on, keeps-same, keeps-on, room}
+use Rattle.edit.specs.Steps.{Painted, Joins, Joined}
+use Rattle.edit.specs.Tidy.{Tidy, Solid, SpaceIn, tidy-forms, forms-tidy, solid-is, flag-solid, space-in, kind-cases, Kept, Keeps, same-on, keeps-same, keeps-on}
 use Rattle.edit.specs.Paint.{Filled, filled}
 use Rattle.edit.specs.Carve.{Cuttable, Rows, Columns, Trimmed}
 use Rattle.edit.specs.Unite.{row-united}
@@ -167,10 +167,6 @@ laid t t′ t″ k q l b r y m name v x =
       };
       few = omega (arith, x .few, f .few);
     }
-
--- a table that takes one more solid has a free record
-pub lay-room : (t : List ℤ) (start l b r p name : ℕ) → CanLay t start l b r p name → (j : ℕ) × FreeIn t j
-lay-room t start l b r p name c = room t (forms-tidy t (c .forms) (c .size .most)) (c .size .least) (omega (arith, c .forms .few))
 
 -- ---- the loop: from the first strip, k₁ of the table t₁, on; k is the new solid as far as it is done, down to y
 

@@ -6,7 +6,6 @@ ghost use Rattle.table.specs.Sound.{capacity, solidsIn};
 ghost use Rattle.edit.specs.Create.{CanLay, Laid, Creates};
 use crate::moves::carve_columns;
 use crate::moves::carve_rows;
-use crate::steps::free_record;
 use crate::steps::join;
 use crate::steps::paint;
 use table::numbers::BOTTOM;
@@ -25,7 +24,7 @@ fn larger(a: u64, b: u64) -> u64
 // The record of the new solid, which reaches down to the strip's bottom or the rectangle's.
 fn strip(
     t: &mut [i32],
-    spot: usize,
+    spot: &mut usize,
     from: usize,
     left: u64,
     bottom: u64,
@@ -58,11 +57,11 @@ pub fn create(
     requires { ⌜ solidsIn (now t) < capacity (recordsOf (now t)) ⌝ }
     ensures { λ k. ⌜ Creates (now (t .entry)) (now (t .exit)) k left bottom right top label ⌝ }
 {
-    let spot = free_record(t, from);
-    let mut k = strip(t, spot, from, left, bottom, right, top, label);
+    let mut spot = from;
+    let mut k = strip(t, &mut spot, from, left, bottom, right, top, label);
     let mut y = table::word(t, k, BOTTOM);
     while bottom < y {
-        let q = strip(t, spot, k, left, bottom, right, y, label);
+        let q = strip(t, &mut spot, k, left, bottom, right, y, label);
         join(t, 0, q, k);
         k = q;
         y = table::word(t, k, BOTTOM);

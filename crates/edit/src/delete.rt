@@ -60,13 +60,14 @@ fn height(t: &[i32], i: usize, n: usize, m: usize) -> u64
 }
 
 // The solid i is cut at the row `stop`; the record of the rest above it, and past the records where nothing is left.
-fn cut_off(t: &mut [i32], spot: usize, i: usize, stop: u64) -> usize
+fn cut_off(t: &mut [i32], spot: &mut usize, i: usize, stop: u64) -> usize
     requires { ⌜ Cuttable (now t) i ⌝ }
     requires { ⌜ (num (now t) i BOTTOM < stop) × (stop ≤ num (now t) i TOP) ⌝ }
     ensures { λ j. ⌜ Slab (now (t .entry)) (now (t .exit)) i j stop ⌝ }
 {
     if stop < table::word(t, i, TOP) {
-        let j = free_record(t, spot);
+        let j = free_record(t, *spot);
+        *spot = j;
         split(t, 0, i, j, stop);
         return j;
     }
@@ -74,7 +75,7 @@ fn cut_off(t: &mut [i32], spot: usize, i: usize, stop: u64) -> usize
 }
 
 // The tile n left of the slab k, where it is space: painted, cut to the slab's rows and joined to it; the record of the run.
-fn take_left(t: &mut [i32], spot: usize, k: usize, n: usize, bottom: u64, top: u64) -> usize
+fn take_left(t: &mut [i32], spot: &mut usize, k: usize, n: usize, bottom: u64, top: u64) -> usize
     requires { ⌜ Takes (now t) k bottom top ⌝ }
     requires { ⌜ LeftOf (now t) k n bottom top ⌝ }
     ensures { λ q. ⌜ TookLeft (now (t .entry)) (now (t .exit)) k q bottom top ⌝ }
@@ -91,7 +92,7 @@ fn take_left(t: &mut [i32], spot: usize, k: usize, n: usize, bottom: u64, top: u
 }
 
 // The same at the right.
-fn take_right(t: &mut [i32], spot: usize, k: usize, n: usize, bottom: u64, top: u64) -> usize
+fn take_right(t: &mut [i32], spot: &mut usize, k: usize, n: usize, bottom: u64, top: u64) -> usize
     requires { ⌜ Takes (now t) k bottom top ⌝ }
     requires { ⌜ RightOf (now t) k n bottom top ⌝ }
     ensures { λ q. ⌜ TookRight (now (t .entry)) (now (t .exit)) k q bottom top ⌝ }
@@ -107,7 +108,7 @@ fn take_right(t: &mut [i32], spot: usize, k: usize, n: usize, bottom: u64, top: 
 }
 
 // The slab i, with the space beside it, is opened up.
-fn vacate(t: &mut [i32], spot: usize, i: usize, n: usize, m: usize, bottom: u64, top: u64)
+fn vacate(t: &mut [i32], spot: &mut usize, i: usize, n: usize, m: usize, bottom: u64, top: u64)
     requires { ⌜ Takes (now t) i bottom top ⌝ }
     requires { ⌜ LeftOf (now t) i n bottom top ⌝ }
     requires { ⌜ RightOf (now t) i m bottom top ⌝ }
@@ -119,7 +120,7 @@ fn vacate(t: &mut [i32], spot: usize, i: usize, n: usize, m: usize, bottom: u64,
 }
 
 // The lowest slab of i is deleted; the record of the rest.
-fn shrink(t: &mut [i32], spot: usize, i: usize) -> usize
+fn shrink(t: &mut [i32], spot: &mut usize, i: usize) -> usize
     requires { ⌜ CanShrink (now t) i ⌝ }
     ensures { λ j. ⌜ Shrunk (now (t .entry)) (now (t .exit)) i j ⌝ }
 {
@@ -137,9 +138,9 @@ pub fn delete(t: &mut [i32], a: usize)
     requires { ⌜ CanShrink (now t) a ⌝ }
     ensures { λ _. ⌜ Deletes (now (t .entry)) (now (t .exit)) a ⌝ }
 {
-    let spot = free_record(t, a);
+    let mut spot = a;
     let mut i = a;
     while i < table::records(t) {
-        i = shrink(t, spot, i);
+        i = shrink(t, &mut spot, i);
     }
 }

@@ -1,5 +1,5 @@
 // The moves of an edit: of a solid tile a piece is cut off, opened up as space, and mended with the space above and below it.
-// After each move the strips are in order again. `spot` is where the search for a free record begins.
+// After each move the strips are in order again. `spot` is where the search for a free record begins; it becomes the record found, so that the next search goes on from there.
 ghost use mathlib.Core.Path.{_≡_};
 ghost use mathlib.Core.Logic.{_↔_};
 ghost use Prim.Native.Nat.{ℕ, _+_, _*_, _<_, _≤_};
@@ -86,28 +86,30 @@ pub(crate) fn open_up(t: &mut [i32], p: usize)
 }
 
 // Of the solid a the rows from c on are opened up.
-pub(crate) fn carve_upper(t: &mut [i32], spot: usize, a: usize, c: u64)
+pub(crate) fn carve_upper(t: &mut [i32], spot: &mut usize, a: usize, c: u64)
     requires { ⌜ Cuttable (now t) a ⌝ }
     requires { ⌜ Shut (now t) a ⌝ }
     requires { ⌜ (num (now t) a BOTTOM < c) × (c ≤ num (now t) a TOP) ⌝ }
     ensures { λ _. ⌜ RowTrimmed (now (t .entry)) (now (t .exit)) a a (num (now (t .entry)) a LEFT) (num (now (t .entry)) a BOTTOM) (num (now (t .entry)) a RIGHT) c ⌝ }
 {
     if c < table::word(t, a, TOP) {
-        let j = free_record(t, spot);
-        split(t, 0, a, j, c);
-        open_up(t, j);
+        let upper = free_record(t, *spot);
+        *spot = upper;
+        split(t, 0, a, upper, c);
+        open_up(t, upper);
     }
 }
 
 // The rows below c are opened up; the record of what is left.
-pub(crate) fn carve_lower(t: &mut [i32], spot: usize, a: usize, c: u64) -> usize
+pub(crate) fn carve_lower(t: &mut [i32], spot: &mut usize, a: usize, c: u64) -> usize
     requires { ⌜ Cuttable (now t) a ⌝ }
     requires { ⌜ Shut (now t) a ⌝ }
     requires { ⌜ (num (now t) a BOTTOM ≤ c) × (c < num (now t) a TOP) ⌝ }
     ensures { λ q. ⌜ RowTrimmed (now (t .entry)) (now (t .exit)) a q (num (now (t .entry)) a LEFT) c (num (now (t .entry)) a RIGHT) (num (now (t .entry)) a TOP) ⌝ }
 {
     if table::word(t, a, BOTTOM) < c {
-        let j = free_record(t, spot);
+        let j = free_record(t, *spot);
+        *spot = j;
         split(t, 0, a, j, c);
         open_up(t, a);
         return j;
@@ -116,28 +118,30 @@ pub(crate) fn carve_lower(t: &mut [i32], spot: usize, a: usize, c: u64) -> usize
 }
 
 // The columns from c on are opened up.
-fn carve_right(t: &mut [i32], spot: usize, a: usize, c: u64)
+fn carve_right(t: &mut [i32], spot: &mut usize, a: usize, c: u64)
     requires { ⌜ Cuttable (now t) a ⌝ }
     requires { ⌜ Shut (now t) a ⌝ }
     requires { ⌜ (num (now t) a LEFT < c) × (c ≤ num (now t) a RIGHT) ⌝ }
     ensures { λ _. ⌜ RightTrimmed (now (t .entry)) (now (t .exit)) a a (num (now (t .entry)) a LEFT) (num (now (t .entry)) a BOTTOM) c (num (now (t .entry)) a TOP) ⌝ }
 {
     if c < table::word(t, a, RIGHT) {
-        let j = free_record(t, spot);
-        split(t, 1, a, j, c);
-        open_up(t, j);
+        let right = free_record(t, *spot);
+        *spot = right;
+        split(t, 1, a, right, c);
+        open_up(t, right);
     }
 }
 
 // The columns left of c are opened up; the record of what is left.
-fn carve_left(t: &mut [i32], spot: usize, a: usize, c: u64) -> usize
+fn carve_left(t: &mut [i32], spot: &mut usize, a: usize, c: u64) -> usize
     requires { ⌜ Cuttable (now t) a ⌝ }
     requires { ⌜ LeftShut (now t) a ⌝ }
     requires { ⌜ (num (now t) a LEFT ≤ c) × (c < num (now t) a RIGHT) ⌝ }
     ensures { λ q. ⌜ Trimmed (now (t .entry)) (now (t .exit)) a q c (num (now (t .entry)) a BOTTOM) (num (now (t .entry)) a RIGHT) (num (now (t .entry)) a TOP) ⌝ }
 {
     if table::word(t, a, LEFT) < c {
-        let j = free_record(t, spot);
+        let j = free_record(t, *spot);
+        *spot = j;
         split(t, 1, a, j, c);
         open_up(t, a);
         return j;
@@ -146,7 +150,7 @@ fn carve_left(t: &mut [i32], spot: usize, a: usize, c: u64) -> usize
 }
 
 // The solid a cut to the rows from bottom on and before top; the record of what is left.
-pub(crate) fn carve_rows(t: &mut [i32], spot: usize, a: usize, bottom: u64, top: u64) -> usize
+pub(crate) fn carve_rows(t: &mut [i32], spot: &mut usize, a: usize, bottom: u64, top: u64) -> usize
     requires { ⌜ Cuttable (now t) a ⌝ }
     requires { ⌜ Shut (now t) a ⌝ }
     requires { ⌜ Rows (now t) a bottom top ⌝ }
@@ -157,7 +161,13 @@ pub(crate) fn carve_rows(t: &mut [i32], spot: usize, a: usize, bottom: u64, top:
 }
 
 // The same with columns.
-pub(crate) fn carve_columns(t: &mut [i32], spot: usize, a: usize, left: u64, right: u64) -> usize
+pub(crate) fn carve_columns(
+    t: &mut [i32],
+    spot: &mut usize,
+    a: usize,
+    left: u64,
+    right: u64,
+) -> usize
     requires { ⌜ Cuttable (now t) a ⌝ }
     requires { ⌜ Shut (now t) a ⌝ }
     requires { ⌜ Columns (now t) a left right ⌝ }

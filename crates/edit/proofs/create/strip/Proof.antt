@@ -23,11 +23,11 @@ paint-requires c κs = search needs
 
 carve-rows-requires : tie.Need-carve-rows-requires
 carve-rows-requires c κs =
-    let s = c .before .before .before .before .before .before .before .before .before in
-    let k = c .before .before .before .before .before .before .before .find in
-    let low = c .before .before .before .before .before .word in
-    let m = c .before .before .before .before .larger in
-    let p = c .before .before .paint in
+    let s = c .before .before .before .before .before .before .before .before .before .before in
+    let k = c .before .before .before .before .before .before .before .before .find in
+    let low = c .before .before .before .before .before .before .word in
+    let m = c .before .before .before .before .before .larger in
+    let p = c .before .before .before .paint in
     let w = strip-ready (s .args .t .now) (p .last .0) (s .args .from) (k .result) (s .args .left) (s .args .bottom) (s .args .right) (s .args .top)
     (low .result) (m .result)
     (s .args .label) (s .pre) (k .ensures .used) (k .ensures .has) (low .ensures .is) (m .ensures) (p .ensures) in
@@ -35,18 +35,18 @@ carve-rows-requires c κs =
 
 carve-columns-requires : tie.Need-carve-columns-requires
 carve-columns-requires c κs =
-    let s = c .before .before .before .before .before .before .before .before .before .before .before .before in
+    let s = c .before .before .before .before .before .before .before .before .before .before .before .before .before .before in
     let t = s .args .t .now in
     let b = s .args .bottom in
     let l = s .args .left in
     let r = s .args .right in
-    let k = c .before .before .before .before .before .before .before .before .before .before .find in
-    let low = c .before .before .before .before .before .before .before .before .word in
-    let m = c .before .before .before .before .before .before .before .larger in
-    let p = c .before .before .before .before .before .paint in
+    let k = c .before .before .before .before .before .before .before .before .before .before .before .before .find in
+    let low = c .before .before .before .before .before .before .before .before .before .before .word in
+    let m = c .before .before .before .before .before .before .before .before .before .larger in
+    let p = c .before .before .before .before .before .before .before .paint in
     let w = strip-ready t (p .last .0) (s .args .from) (k .result) l b r (s .args .top) (low .result) (m .result)
     (s .args .label) (s .pre) (k .ensures .used) (k .ensures .has) (low .ensures .is) (m .ensures) (p .ensures) in
-    let q = c .before .before .carve-rows in (
+    let q = c .before .before .before .carve-rows in (
       cut-on (p .last .0) (q .last .0) (k .result) (q .result) (num (p .last .0) (k .result) LEFT) (m .result) (num (p .last .0) (k .result) RIGHT) (s .args .top)
           (w .cuttable) (q .ensures .trim),
       (
@@ -61,18 +61,18 @@ same-length c = search needs
 
 returns : tie.Need-returns
 returns c =
-    let s = c .before .before .before .before .before .before .before .before .before .before .before .before .before .before in
+    let s = c .before .before .before .before .before .before .before .before .before .before .before .before .before .before .before .before in
     let t = s .args .t .now in
     let b = s .args .bottom in
     let l = s .args .left in
     let r = s .args .right in
-    let k = c .before .before .before .before .before .before .before .before .before .before .before .before .find in
-    let low = c .before .before .before .before .before .before .before .before .before .before .word in
-    let m = c .before .before .before .before .before .before .before .before .before .larger in
-    let p = c .before .before .before .before .before .before .before .paint in
+    let k = c .before .before .before .before .before .before .before .before .before .before .before .before .before .before .find in
+    let low = c .before .before .before .before .before .before .before .before .before .before .before .before .word in
+    let m = c .before .before .before .before .before .before .before .before .before .before .before .larger in
+    let p = c .before .before .before .before .before .before .before .before .before .paint in
     let w = strip-ready t (p .last .0) (s .args .from) (k .result) l b r (s .args .top) (low .result) (m .result)
     (s .args .label) (s .pre) (k .ensures .used) (k .ensures .has) (low .ensures .is) (m .ensures) (p .ensures) in
-    let q = c .before .before .before .before .carve-rows in
+    let q = c .before .before .before .before .before .carve-rows in
     let z = c .before .carve-columns in
     laid t (p .last .0) (z .last .0) (k .result) (z .result) l b r (s .args .top) (m .result)
     (s .args .label) w (all-trimmed (p .last .0) (q .last .0) (z .last .0) (k .result) (q .result) (z .result) (num (p .last .0) (k .result) LEFT) (m .result)

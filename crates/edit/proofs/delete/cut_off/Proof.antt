@@ -11,12 +11,12 @@ word-requires c κs = search needs
 
 free-record-requires : tie.Need-free-record-requires
 free-record-requires c κs =
-    let s = c .before .before .before .before in
+    let s = c .before .before .before .before .before in
     cut-room (s .args .t .now) (s .args .i) (s .pre .0)
 
 split-requires : tie.Need-split-requires
 split-requires c κs =
-    let s = c .before .before .before .before .before .before in
+    let s = c .before .before .before .before .before .before .before in
     row-splits (s .args .t .now) (s .args .i) (c .before .free-record .result) (s .args .stop) (s .pre .0) (c .before .free-record .ensures) (omega arith)
     (omega arith)
 
@@ -25,7 +25,7 @@ same-length c = search needs
 
 returns : tie.Need-returns
 returns c =
-    let s = c .before .before .before .before .before .before .before .before in
+    let s = c .before .before .before .before .before .before .before .before .before in
     slab-cut (s .args .t .now) (c .before .split .last .0) (s .args .i) (c .before .before .before .free-record .result) (s .args .stop) (s .pre .0 .tidy)
     (s .pre .0 .solid) (c .before .split .ensures)
 

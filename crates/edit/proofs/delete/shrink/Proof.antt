@@ -24,23 +24,23 @@ height-requires c κs =
 
 cut-off-requires : tie.Need-cut-off-requires
 cut-off-requires c κs =
-    let s = c .before .before .before .before .before .before .before .before .before in
-    let h = c .before .height .ensures in
+    let s = c .before .before .before .before .before .before .before .before .before .before in
+    let h = c .before .before .height .ensures in
     (shrink-cuttable (s .args .t .now) (s .args .i) (s .pre), (h .low, h .high))
 
 vacate-requires : tie.Need-vacate-requires
 vacate-requires c κs =
-    let s = c .before .before .before .before .before .before .before .before .before .before .before .before in
+    let s = c .before .before .before .before .before .before .before .before .before .before .before .before .before .before in
     let t = s .args .t .now in
     let i = s .args .i in
     let d = shrink-tidy t i (s .pre) in
     let b = num t i BOTTOM in
-    let n = c .before .before .before .before .before .before .before .before .follow .result in
-    let m = c .before .before .before .before .before .before .right-of .result in
-    let z = c .before .before .before .before .height in
-    let x = c .before .before .cut-off in
+    let n = c .before .before .before .before .before .before .before .before .before .before .follow .result in
+    let m = c .before .before .before .before .before .before .before .before .right-of .result in
+    let z = c .before .before .before .before .before .before .height in
+    let x = c .before .before .before .cut-off in
     subst (λ b. Takes (x .last .0) i b (z .result) × (LeftOf (x .last .0) i n b (z .result) × RightOf (x .last .0) i m b (z .result)))
-    (sym (c .before .before .before .before .before .before .before .before .before .before .word .ensures .is)) (
+    (sym (c .before .before .before .before .before .before .before .before .before .before .before .before .word .ensures .is)) (
       slab-takes t (x .last .0) i (x .result) (z .result) (s .pre) (x .ensures) (z .ensures .low),
       (
         slab-left t (x .last .0) i (x .result) n b (z .result) (z .result) d (s .pre .solid) (x .ensures) (z .ensures .left),
@@ -53,9 +53,9 @@ same-length c = search needs
 
 returns : tie.Need-returns
 returns c =
-    let s = c .before .before .before .before .before .before .before .before .before .before .before .before .before .before in
-    let z = c .before .before .before .before .before .before .height in
-    let x = c .before .before .before .before .cut-off in
+    let s = c .before .before .before .before .before .before .before .before .before .before .before .before .before .before .before .before in
+    let z = c .before .before .before .before .before .before .before .before .height in
+    let x = c .before .before .before .before .before .cut-off in
     shrunk (s .args .t .now) (x .last .0) (s .args .i) (x .result) (z .result) (s .pre) (x .ensures) (z .ensures .low) (c .before .vacate .last .0)
     (c .before .vacate .ensures)
 

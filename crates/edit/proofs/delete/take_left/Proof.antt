@@ -23,28 +23,28 @@ paint-requires c κs = search needs
 
 carve-rows-requires : tie.Need-carve-rows-requires
 carve-rows-requires c κs =
-    let s = c .before .before .before .before .before .before .before .before .before .before in
+    let s = c .before .before .before .before .before .before .before .before .before .before .before in
     let t = s .args .t .now in
     let n = s .args .n in
-    let r = c .before .before .before .before .before .before .before .before .records .ensures in
-    let g : n < recordsOf t = omega (arith, c .before .before .before .before .before .before .before .if1 .taken) in
-    let e : num t n KIND ≡ SPACE = omega (arith, c .before .before .before .before .before .word .ensures .is, c .before .before .before .before .if2 .taken) in
-    let p = c .before .before .paint in
+    let r = c .before .before .before .before .before .before .before .before .before .records .ensures in
+    let g : n < recordsOf t = omega (arith, c .before .before .before .before .before .before .before .before .if1 .taken) in
+    let e : num t n KIND ≡ SPACE = omega (arith, c .before .before .before .before .before .before .word .ensures .is, c .before .before .before .before .before .if2 .taken) in
+    let p = c .before .before .before .paint in
     let w = beside-ready t (p .last .0) n (s .args .k) (s .args .bottom) (s .args .top) (s .pre .0) (s .pre .1 .flank g) e (p .ensures) in
     (w .cuttable, (w .filled .shut, w .rows))
 
 join-requires : tie.Need-join-requires
 join-requires c κs =
-    let s = c .before .before .before .before .before .before .before .before .before .before .before .before .before in
+    let s = c .before .before .before .before .before .before .before .before .before .before .before .before .before .before in
     let t = s .args .t .now in
     let n = s .args .n in
     let k = s .args .k in
     let b = s .args .bottom in
-    let r = c .before .before .before .before .before .before .before .before .before .before .before .records .ensures in
-    let g : n < recordsOf t = omega (arith, c .before .before .before .before .before .before .before .before .before .before .if1 .taken) in
+    let r = c .before .before .before .before .before .before .before .before .before .before .before .before .records .ensures in
+    let g : n < recordsOf t = omega (arith, c .before .before .before .before .before .before .before .before .before .before .before .if1 .taken) in
     let e : num t n KIND ≡ SPACE = omega
-    (arith, c .before .before .before .before .before .before .before .before .word .ensures .is, c .before .before .before .before .before .before .before .if2 .taken) in
-    let p = c .before .before .before .before .before .paint in
+    (arith, c .before .before .before .before .before .before .before .before .before .word .ensures .is, c .before .before .before .before .before .before .before .before .if2 .taken) in
+    let p = c .before .before .before .before .before .before .paint in
     let w = beside-ready t (p .last .0) n k b (s .args .top) (s .pre .0) (s .pre .1 .flank g) e (p .ensures) in
     let q = c .before .before .carve-rows in
     left-joins t (p .last .0) (q .last .0) n k (q .result) b (s .args .top) (s .pre .0) (s .pre .1) w (q .ensures)
@@ -54,16 +54,16 @@ same-length c = search needs
 
 returns : tie.Need-returns
 returns c =
-    let s = c .before .before .before .before .before .before .before .before .before .before .before .before .before .before .before in
+    let s = c .before .before .before .before .before .before .before .before .before .before .before .before .before .before .before .before in
     let t = s .args .t .now in
     let n = s .args .n in
     let k = s .args .k in
     let b = s .args .bottom in
-    let r = c .before .before .before .before .before .before .before .before .before .before .before .before .before .records .ensures in
-    let g : n < recordsOf t = omega (arith, c .before .before .before .before .before .before .before .before .before .before .before .before .if1 .taken) in
+    let r = c .before .before .before .before .before .before .before .before .before .before .before .before .before .before .records .ensures in
+    let g : n < recordsOf t = omega (arith, c .before .before .before .before .before .before .before .before .before .before .before .before .before .if1 .taken) in
     let e : num t n KIND ≡ SPACE = omega
-    (arith, c .before .before .before .before .before .before .before .before .before .before .word .ensures .is, c .before .before .before .before .before .before .before .before .before .if2 .taken) in
-    let p = c .before .before .before .before .before .before .before .paint in
+    (arith, c .before .before .before .before .before .before .before .before .before .before .before .word .ensures .is, c .before .before .before .before .before .before .before .before .before .before .if2 .taken) in
+    let p = c .before .before .before .before .before .before .before .before .paint in
     let w = beside-ready t (p .last .0) n k b (s .args .top) (s .pre .0) (s .pre .1 .flank g) e (p .ensures) in
     let q = c .before .before .before .before .carve-rows in
     left-taken t (p .last .0) (q .last .0) n k (q .result) b (s .args .top) (s .pre .0) (s .pre .1) w (q .ensures)

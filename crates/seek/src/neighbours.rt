@@ -1,11 +1,6 @@
 // The neighbours of a tile on a side: how many there are, and the list of them.
 use crate::side::along;
-use table::numbers::ZERO;
-ghost use mathlib.Core.Path.{_≡_};
-ghost use Prim.Native.Nat.{_<_};
-ghost use lib.IntN.{pos};
 ghost use lib.ListN.{length};
-ghost use Rattle.geometry.specs.Picture.{ZERO};
 ghost use Rattle.table.specs.Sound.{SizeRight, UsedIn};
 ghost use Rattle.table.specs.Forms.{Forms};
 ghost use Rattle.seek.specs.Neighbours.{sideOf};
@@ -26,14 +21,6 @@ pub fn count_side(t: &[i32], i: usize, side: usize) -> usize
     n
 }
 
-// A record number as a word.
-fn name(i: usize) -> i32
-    requires { ⌜ i < ZERO ⌝ }
-    ensures { λ r. ⌜ r ≡ pos i ⌝ }
-{
-    ruler::word_at(i as u64 + ZERO)
-}
-
 // The record numbers of the neighbours are written to `out`, which is long enough.
 pub fn list_side(t: &[i32], i: usize, side: usize, out: &mut [i32])
     requires { ⌜ Forms (now t) ⌝ }
@@ -45,7 +32,7 @@ pub fn list_side(t: &[i32], i: usize, side: usize, out: &mut [i32])
     let mut w = along(t, i, side);
     let mut n: usize = 0;
     while w.more {
-        out[n] = name(w.at);
+        out[n] = ruler::count(w.at as u64);
         w = w.step(t);
         n += 1;
     }

@@ -11,7 +11,7 @@ use Rattle.seek.proofs.neighbours.list_side.Statement.{statement}
 use Rattle.seek.proofs.neighbours.list_side.Tie as tie
 use Rattle.seek.proofs.neighbours.list_side.Reads as reads
 use Rattle.seek.proofs.neighbours.list_side.Lts as lts
-use Rattle.seek.proofs.neighbours.name.Reads as name-reads
+use Rattle.ruler.proofs.count.Reads as count-reads
 use Rattle.seek.proofs.side.Walk.step.Reads as step-reads
 use Rattle.seek.proofs.side.along.Reads as along-reads
 
@@ -29,14 +29,14 @@ loop-holds c =
     let p = c .before .pre in
     listing-starts _ (p .0) (p .1 .0) _ _ (p .1 .1 .0) _ _ (c .along .ensures) (p .1 .1 .1)
 
-name-requires : tie.Need-name-requires Inv-loop μ-loop
-name-requires c κs =
+count-requires : tie.Need-count-requires Inv-loop μ-loop
+count-requires c κs =
     let l = c .before in
     let p = l .before .before .pre in
     counting-below _ (p .0) (p .1 .0) _ _ (p .1 .1 .0) _ _ (l .loop .inv .counting) (c .loop-test .taken)
 
-mul-t9 : tie.Need-mul-t9 Inv-loop μ-loop
-mul-t9 c =
+mul-t10 : tie.Need-mul-t10 Inv-loop μ-loop
+mul-t10 c =
     let l = c .before .before in
     let p = l .before .before .pre in
     omega (arith, counting-short _ (p .0) (p .1 .0) _ _ (p .1 .1 .0) _ _ (l .loop .inv .counting) (c .before .loop-test .taken))
@@ -69,7 +69,7 @@ loop-again : tie.Need-loop-again Inv-loop μ-loop
 loop-again c =
     let l = c .before .before .before in
     let p = l .before .before .pre in
-    let e = toZ-ofZ (sfits-of (c .before .name .ok)) ∙ c .before .name .ensures in
+    let e = toZ-ofZ (sfits-of (c .before .count .ok)) ∙ c .before .count .ensures in
     listing-on _ (p .0) (p .1 .0) _ _ (p .1 .1 .0) _ _ (l .loop .inv .counting) (c .before .before .loop-test .taken) _ _ _ _ (c .step .ensures) (l .loop .inv .room) (l .loop .inv .written) e
 
 same-length : tie.Need-same-length Inv-loop μ-loop
@@ -89,8 +89,8 @@ list-side-spec =
     μ-loop
     along-requires
     loop-holds
-    name-requires
-    mul-t9
+    count-requires
+    mul-t10
     slice-set-from-out
     step-requires
     add-n

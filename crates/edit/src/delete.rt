@@ -66,8 +66,7 @@ fn cut_off(t: &mut [i32], spot: &mut usize, i: usize, stop: u64) -> usize
     ensures { λ j. ⌜ Slab (now (t .entry)) (now (t .exit)) i j stop ⌝ }
 {
     if stop < table::word(t, i, TOP) {
-        let j = free_record(t, *spot);
-        *spot = j;
+        let j = free_record(t, spot);
         split(t, 0, i, j, stop);
         return j;
     }

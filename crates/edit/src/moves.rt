@@ -1,5 +1,5 @@
 // The moves of an edit: of a solid tile a piece is cut off, opened up as space, and mended with the space above and below it.
-// After each move the strips are in order again. `spot` is where the search for a free record begins; it becomes the record found, so that the next search goes on from there.
+// After each move the strips are in order again. `spot` is where the search for a free record begins.
 ghost use mathlib.Core.Path.{_≡_};
 ghost use mathlib.Core.Logic.{_↔_};
 ghost use Prim.Native.Nat.{ℕ, _+_, _*_, _<_, _≤_};
@@ -93,8 +93,7 @@ pub(crate) fn carve_upper(t: &mut [i32], spot: &mut usize, a: usize, c: u64)
     ensures { λ _. ⌜ RowTrimmed (now (t .entry)) (now (t .exit)) a a (num (now (t .entry)) a LEFT) (num (now (t .entry)) a BOTTOM) (num (now (t .entry)) a RIGHT) c ⌝ }
 {
     if c < table::word(t, a, TOP) {
-        let upper = free_record(t, *spot);
-        *spot = upper;
+        let upper = free_record(t, spot);
         split(t, 0, a, upper, c);
         open_up(t, upper);
     }
@@ -108,8 +107,7 @@ pub(crate) fn carve_lower(t: &mut [i32], spot: &mut usize, a: usize, c: u64) -> 
     ensures { λ q. ⌜ RowTrimmed (now (t .entry)) (now (t .exit)) a q (num (now (t .entry)) a LEFT) c (num (now (t .entry)) a RIGHT) (num (now (t .entry)) a TOP) ⌝ }
 {
     if table::word(t, a, BOTTOM) < c {
-        let j = free_record(t, *spot);
-        *spot = j;
+        let j = free_record(t, spot);
         split(t, 0, a, j, c);
         open_up(t, a);
         return j;
@@ -125,8 +123,7 @@ fn carve_right(t: &mut [i32], spot: &mut usize, a: usize, c: u64)
     ensures { λ _. ⌜ RightTrimmed (now (t .entry)) (now (t .exit)) a a (num (now (t .entry)) a LEFT) (num (now (t .entry)) a BOTTOM) c (num (now (t .entry)) a TOP) ⌝ }
 {
     if c < table::word(t, a, RIGHT) {
-        let right = free_record(t, *spot);
-        *spot = right;
+        let right = free_record(t, spot);
         split(t, 1, a, right, c);
         open_up(t, right);
     }
@@ -140,8 +137,7 @@ fn carve_left(t: &mut [i32], spot: &mut usize, a: usize, c: u64) -> usize
     ensures { λ q. ⌜ Trimmed (now (t .entry)) (now (t .exit)) a q c (num (now (t .entry)) a BOTTOM) (num (now (t .entry)) a RIGHT) (num (now (t .entry)) a TOP) ⌝ }
 {
     if table::word(t, a, LEFT) < c {
-        let j = free_record(t, *spot);
-        *spot = j;
+        let j = free_record(t, spot);
         split(t, 1, a, j, c);
         open_up(t, a);
         return j;

@@ -209,14 +209,15 @@ fn free_from(t: &[i32], from: usize) -> usize
     k
 }
 
-// A free record: the first from `from` on, or else the first of all.
-pub fn free_record(t: &[i32], from: usize) -> usize
+// A free record: the first from `spot` on, or else the first of all. `spot` becomes it, so that the next search goes on from there.
+pub fn free_record(t: &[i32], spot: &mut usize) -> usize
     requires { ⌜ HasFree (now t) ⌝ }
     ensures { λ r. ⌜ FreeIn (now (t .entry)) r ⌝ }
 {
-    let k = free_from(t, from);
-    if k < table::records(t) {
-        return k;
+    let mut k = free_from(t, *spot);
+    if table::records(t) <= k {
+        k = free_from(t, 0);
     }
-    free_from(t, 0)
+    *spot = k;
+    k
 }

@@ -12,8 +12,12 @@ use Rattle.seek.specs.Order.{directed-one}
 use Rattle.seek.specs.Writing.{Writes, CountOf, count-one, writes-one}
 use Rattle.seek.specs.declared.directed.Area as Given
 
+-- the area with these edges
+abbrev pub edges : ℕ → ℕ → ℕ → ℕ → Area
+edges left bottom right top = record { left = left; bottom = bottom; right = right; top = top }
+
 abbrev pub areaOf : Given.Area → Area
-areaOf a = record { left = a .left; bottom = a .bottom; right = a .right; top = a .top }
+areaOf a = edges (a .left) (a .bottom) (a .right) (a .top)
 
 -- the tree of tile p is written
 abbrev pub WritesTree : List ℤ → Area → ℕ → List ℤ → List ℤ → ℕ → Type 0

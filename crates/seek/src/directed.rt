@@ -3,13 +3,11 @@ use crate::cell::find;
 use crate::side::Walk;
 use crate::side::along;
 use table::numbers::BOTTOM;
+use table::numbers::LOW;
 use table::numbers::RIGHT;
-use table::numbers::TOP;
 ghost use mathlib.Core.Path.{_≡_};
-ghost use mathlib.Core.Logic.{_↔_};
 ghost use mathlib.Core.List.{_∷_, []};
 ghost use Prim.Native.Nat.{_<_, min};
-ghost use lib.Dec.{T};
 ghost use Rattle.geometry.specs.Picture.{ZERO};
 ghost use Rattle.table.specs.Words.{recordsOf};
 ghost use Rattle.table.specs.Sound.{SizeRight, UsedIn};
@@ -17,8 +15,8 @@ ghost use Rattle.table.specs.Forms.{Forms};
 ghost use Rattle.seek.specs.Meaning.{RectRight, Meets};
 ghost use Rattle.seek.specs.Walk.{Goes};
 ghost use Rattle.seek.specs.Writing.{over, words};
-ghost use Rattle.seek.specs.Subtree.{HangsBy, Follows};
-ghost use Rattle.seek.specs.Enumerate.{areaOf, WritesTree, WritesArea, CountsArea};
+ghost use Rattle.seek.specs.Subtree.{Floor, Follows};
+ghost use Rattle.seek.specs.Enumerate.{areaOf, edges, WritesTree, WritesArea, CountsArea};
 
 pub struct Area {
     pub left: u64,
@@ -27,27 +25,14 @@ pub struct Area {
     pub top: u64,
 }
 
-// Whether tile k, which begins at the right side of p and inside the area's columns, hangs under p.
-fn hangs(t: &[i32], p: usize, k: usize, area: Area) -> bool
+// The lowest row in which a tile at p's right side can begin and hang under p. Where p reaches down to the area's bottom that is any row, since
+// the area cuts what begins under it.
+fn floor(t: &[i32], p: usize, bottom: u64) -> u64
     requires { ⌜ p < recordsOf (now t) ⌝ }
-    requires { ⌜ k < recordsOf (now t) ⌝ }
-    ensures { λ r. ⌜ T r ↔ HangsBy (now (t .entry)) (area .bottom) (area .top) p k ⌝ }
+    ensures { λ r. ⌜ Floor (now (t .entry)) p bottom r ⌝ }
 {
-    if table::word(t, k, TOP) <= area.bottom {
-        return false;
-    }
-    let low = table::word(t, k, BOTTOM);
-    if area.top <= low {
-        return false;
-    }
     let base = table::word(t, p, BOTTOM);
-    if base <= low {
-        return true;
-    }
-    if base <= area.bottom {
-        return true;
-    }
-    false
+    if base <= bottom { LOW } else { base }
 }
 
 // The record number of a tile to the front of a list, if there is room.
@@ -82,27 +67,41 @@ fn next(mut w: Walk, t: &[i32], bottom: u64) -> Walk
     w.step(t)
 }
 
-// The tree of tile p, as much of it as the list has room for. How many tiles it has.
-fn subtree(t: &[i32], out: &mut [i32], p: usize, area: Area) -> usize
+// The tree of tile p, as much of it as the list has room for. How many tiles it has. A tile that begins under the floor hangs under another tile,
+// and is the last at p's side. The area comes as four numbers, since a struct would be copied at each call; `left` only states the contract.
+fn subtree(
+    t: &[i32],
+    out: &mut [i32],
+    p: usize,
+    left: u64,
+    bottom: u64,
+    right: u64,
+    top: u64,
+) -> usize
     requires { ⌜ Forms (now t) ⌝ }
     requires { ⌜ SizeRight (now t) ⌝ }
-    requires { ⌜ Meets (now t) (areaOf area) p ⌝ }
-    ensures { λ r. ⌜ WritesTree (now (t .entry)) (areaOf area) p (now (out .entry)) (now (out .exit)) r ⌝ }
+    requires { ⌜ Meets (now t) (edges left bottom right top) p ⌝ }
+    ensures { λ r. ⌜ WritesTree (now (t .entry)) (edges left bottom right top) p (now (out .entry)) (now (out .exit)) r ⌝ }
 {
     put_first(out, p);
-    if table::word(t, p, RIGHT) >= area.right {
+    if table::word(t, p, RIGHT) >= right {
         return 1;
     }
+    let lowest = floor(t, p, bottom);
     let mut n: usize = 1;
     let mut w = along(t, p, 0);
     while w.more {
         let k = w.at;
-        if hangs(t, p, k, area) {
+        let low = table::word(t, k, BOTTOM);
+        if low < lowest {
+            return n;
+        }
+        if low < top {
             let at = place_after(n, out.len());
-            let c = subtree(t, &mut out[at..], k, area);
+            let c = subtree(t, &mut out[at..], k, left, bottom, right, top);
             n = n + c;
         }
-        w = next(w, t, area.bottom);
+        w = next(w, t, bottom);
     }
     n
 }
@@ -121,7 +120,15 @@ pub fn list_area(t: &[i32], out: &mut [i32], from: usize, area: Area) -> usize
     while area.bottom < y {
         k = find(t, k, area.left, y - 1);
         let at = place_after(n, out.len());
-        let c = subtree(t, &mut out[at..], k, area);
+        let c = subtree(
+            t,
+            &mut out[at..],
+            k,
+            area.left,
+            area.bottom,
+            area.right,
+            area.top,
+        );
         n = n + c;
         y = table::word(t, k, BOTTOM);
     }

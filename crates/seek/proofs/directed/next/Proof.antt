@@ -20,7 +20,7 @@ step-requires : tie.Need-step-requires
 step-requires c κs = search needs
 
 returns-2 : tie.Need-returns-2
-returns-2 c = steps (c .step .ensures)
+returns-2 c = steps (omega (arith, c .before .if1 .left, c .before .before .word .ensures .is)) (c .step .ensures)
 
 pub next-spec : {M : Type 1} → statement M
 next-spec = tie.close (tie.spec word-requires returns step-requires returns-2)

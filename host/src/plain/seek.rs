@@ -139,17 +139,25 @@ impl Listing<'_> {
     fn subtree(&self, tile: usize, visit: &mut impl FnMut(usize)) {
         visit(tile);
         let Listing { table, area, .. } = self;
-        let [_, bottom, right, top, ..] = table[tile];
+        let [_, bottom, right, ..] = table[tile];
         if right >= area.right {
             return;
         }
-        Along { table, tile, side: &SIDES[0] }.each(|at| {
-            // A tile cut by the area's lower edge hangs where its lowest row inside the area begins.
-            let row = table[at][BOTTOM].max(area.bottom);
-            let meets = table[at][BOTTOM] < area.top && table[at][TOP] > area.bottom;
-            if meets && bottom <= row && row < top {
+        // A tile that begins lower hangs under another one, unless the area cuts both.
+        let floor = if bottom <= area.bottom { -EDGE } else { bottom };
+        let mut at = table[tile][TR] as usize;
+        loop {
+            let low = table[at][BOTTOM];
+            if low < floor {
+                return;
+            }
+            if low < area.top {
                 self.subtree(at, visit);
             }
-        });
+            if low <= bottom.max(area.bottom) {
+                return;
+            }
+            at = table[at][LB] as usize;
+        }
     }
 }

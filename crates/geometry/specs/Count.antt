@@ -1,11 +1,9 @@
 -- Counts of the numbers below n that pass a test, and the pigeonhole principle. Assumes nothing.
 use mathlib.Core.Path.{_≡_, refl, sym, ap, _∙_, subst, subst₂}
-use mathlib.Core.List.{List}
 use mathlib.Core.Bool.{Bool, true, false, not, _&&_}
 use Prim.Native.Nat.{ℕ, zero, suc, _+_, _*_, _≤_, _<_, zero-le}
 use native.Mathlib.Nat.{le-refl}
 use native.Mathlib.Omega.{arith}
-use lib.ListN.{length, getD}
 use lib.Dec.{T, eqb, eqb→eq, eqb-refl, not-T}
 use Rattle.geometry.specs.Cases.{lt-cases, only, only-le, T-and}
 use Rattle.geometry.specs.Sums.{sumTo, sum-ext, sum-mono, sum-const, sum-mul, sum-prefix, sum-strict}
@@ -80,26 +78,6 @@ pub pigeonhole : (R m : ℕ) (p : ℕ → Bool) (G : ℕ → ℕ → Type 0)
     → ((i : ℕ) → i < R → T (p i) → (s : ℕ) × (s < m) × G i s) → ((i j s : ℕ) → G i s → G j s → i ≡ j) → count R p ≤ m
 pigeonhole R m p G code one =
     omega (arith, count-le m (λ k. true), inject R m p (λ k. true) G (λ i h t. let c = code i h t in (c .0, c .1, tt, c .2)) one)
-
--- by a function, injective where p passes
-pub pigeonhole-by : (R m : ℕ) (p : ℕ → Bool) (g : ℕ → ℕ)
-    → ((i : ℕ) → i < R → T (p i) → g i < m) → ((i j : ℕ) → i < R → j < R → T (p i) → T (p j) → g i ≡ g j → i ≡ j) → count R p ≤ m
-pigeonhole-by R m p g small one =
-    pigeonhole R m p (λ i s. (i < R) × T (p i) × (g i ≡ s)) (λ i h t. (g i, small i h t, (h, t, refl)))
-    (λ i j s v w. one i j (v .0) (w .0) (v .1) (w .1) (v .2 ∙ sym (w .2)))
-
--- of lists: distinct numbers, each of which is in the other list
-pub pigeonhole-list : (xs ys : List ℕ)
-    → ((i j : ℕ) → i < length xs → j < length xs → getD xs i 0 ≡ getD xs j 0 → i ≡ j)
-    → ((i : ℕ) → i < length xs → (j : ℕ) × (j < length ys) × (getD ys j 0 ≡ getD xs i 0)) → length xs ≤ length ys
-unfolding count
-pigeonhole-list xs ys distinct found =
-    omega (
-      arith,
-      sum-const (length xs) 1,
-      pigeonhole (length xs) (length ys) (λ k. true) (λ i j. (i < length xs) × (getD ys j 0 ≡ getD xs i 0))
-          (λ i h t. let f = found i h in (f .0, f .1, (h, f .2))) (λ i j s v w. distinct i j (v .0) (w .0) (sym (v .1) ∙ w .1)),
-    )
 
 -- Codes of two parts: place s has room for q s of them. The i below R that pass p are at most as many as there is room.
 pub rooms : (R m : ℕ) (p : ℕ → Bool) (q : ℕ → ℕ) (G : ℕ → ℕ → ℕ → Type 0)

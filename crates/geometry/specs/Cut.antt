@@ -1,13 +1,13 @@
 -- One tile cut in two across, or two joined: the tiles' rectangles. Assumes nothing.
 use mathlib.Core.Path.{_≡_, refl, sym, ap, _∙_, subst}
-use mathlib.Core.Bool.{Bool, true, false, not}
+use mathlib.Core.Bool.{not}
 use mathlib.Core.Logic.{_≢_}
-use Prim.Native.Nat.{ℕ, zero, suc, _+_, _-_, _≤_, _<_}
+use Prim.Native.Nat.{ℕ, _≤_, _<_}
 use native.Mathlib.Omega.{arith}
 use lib.Dec.{T, T-not}
 use Rattle.geometry.specs.Cases.{lt-cases, eq-cases}
-use Rattle.geometry.specs.Plane.{Plane, Cell, Is, At, Holds, Formed, WellFormed, Covered, Disjoint, Held, hi}
-use Rattle.geometry.specs.Stitches.{Stitches, UpAt, DownAt, HoldsUp, HoldsDown, Up, Down, Good, Same, same-tile, same}
+use Rattle.geometry.specs.Plane.{Plane, Is, Holds, Formed, WellFormed, Covered, Disjoint}
+use Rattle.geometry.specs.Stitches.{UpAt, DownAt, HoldsUp, HoldsDown, same}
 
 -- tile i's rectangle in Q is tile i's in P
 pub record SameBox (P Q : Plane) (i : ℕ) : Type 0 where

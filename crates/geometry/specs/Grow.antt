@@ -1,18 +1,17 @@
--- A solid rectangle put into a space tile: paint the tile, then cut off the rows above, the rows below, the columns right and the columns left,
--- and make each of these space again and mend it. Assumes nothing.
-use mathlib.Core.Path.{_≡_, refl, sym, ap, _∙_, subst}
-use mathlib.Core.Bool.{Bool, true, false, not, cond}
+-- A solid rectangle put into a space tile: the tile is painted, and what lies round the rectangle is cut off, made space again and mended.
+-- Here the right and the left side of what is left, through each of these steps. Assumes nothing.
+use mathlib.Core.Path.{_≡_, sym, subst}
+use mathlib.Core.Bool.{Bool}
 use mathlib.Core.Logic.{_≢_}
-use Prim.Native.Nat.{ℕ, zero, suc, _+_, _-_, _≤_, _<_}
+use Prim.Native.Nat.{ℕ, _≤_, _<_}
 use native.Mathlib.Omega.{arith}
-use lib.Dec.{T, T-not, eqb, eqb→eq, eqb-refl}
-use Rattle.geometry.specs.Cases.{lt-cases, eq-cases}
-use Rattle.geometry.specs.Plane.{Plane, Cell, Is, At, Holds, Formed, WellFormed, Covered, Disjoint, Held, hi}
-use Rattle.geometry.specs.Strips.{Strips, Space}
-use Rattle.geometry.specs.Stitches.{Stitches, Good, Same, same-tile}
-use Rattle.geometry.specs.Turns.{swap, swap-is, is-swap}
-use Rattle.geometry.specs.Cut.{Cut, CutBox, SameBox, not-fresh, is-after, is-before, is-made, which-before, holds-after, holds-made, holds-before, holds-joined}
-use Rattle.geometry.specs.Tidy.{Stacked, Besides, Neat, Loose, OnlyAt, Parts, RightSolid, LeftSolid, Still, still, space-old, solid-new, not-solid, paint, cut-neat, unpaint, row-parts, column-parts, mend-over, mend-under, loose-neat, none-over, none-under}
+use lib.Dec.{T, T-not}
+use Rattle.geometry.specs.Cases.{eq-cases}
+use Rattle.geometry.specs.Plane.{Plane, Is, Holds, Disjoint}
+use Rattle.geometry.specs.Strips.{Space}
+use Rattle.geometry.specs.Stitches.{same-tile}
+use Rattle.geometry.specs.Cut.{Cut, SameBox, not-fresh, is-after, holds-after}
+use Rattle.geometry.specs.Tidy.{Neat, Loose, OnlyAt, Parts, RightSolid, LeftSolid, still, space-old, solid-new, not-solid}
 
 -- a is solid, and could be space as far as its right side and its left side go
 pub record Sided (P : Plane) (sol : ℕ → Bool) (a : ℕ) : Type 0 where
@@ -83,147 +82,8 @@ module _ (P Q : Plane) (sol : ℕ → Bool) (x z c q : ℕ) (s : Cut P Q x z c) 
       r k y (omega arith) (omega arith)
       (subst (λ x. Holds Q k x y) (sym (e .r)) (holds-after P Q x z c s k (P .r q) y v (λ d. absurd (n d))))
 
--- ---- cut off a piece: p is made space, and q is what is left of the solid tile a
-
--- the flags with j solid, for the moment between the cut and the new flag
-abbrev solid-at : (ℕ → Bool) → ℕ → ℕ → Bool
-solid-at f j k = cond (eqb k j) true (f k)
-
-solid-at-j : (f : ℕ → Bool) (j : ℕ) → T (solid-at f j j)
-solid-at-j f j = go (eqb j j) (eqb-refl j)
-  where
-    go : (b : Bool) → T b → T (cond b true (f j))
-    go true t = tt
-
-solid-at-off : (f : ℕ → Bool) (j : ℕ) → OnlyAt f (solid-at f j) j
-solid-at-off f j k n = go (eqb k j) (eqb→eq k j)
-  where
-    go : (b : Bool) → (T b → k ≡ j) → cond b true (f k) ≡ f k
-    go true h = absurd (n (h tt))
-    go false h = refl
-
--- the flags after: p, one of a and j, is space, and q, the other, is solid
-pub record Flags (old new : ℕ → Bool) (a j p q : ℕ) : Type 0 where
-  pub off : (k : ℕ) → k ≢ a → k ≢ j → new k ≡ old k
-  pub p-space : T (not (new p))
-  pub q-solid : T (new q)
+-- ---- a piece p that is cut off a solid tile and made space
 
 pub record Carved (Q : Plane) (new : ℕ → Bool) (p : ℕ) : Type 0 where
   pub loose : Loose Q new p
   pub space : Space Q new p
-
--- the flags with both parts solid, and those after, differ at p alone
-upper-flags : (old new : ℕ → Bool) (a j : ℕ) → T (old a) → Flags old new a j j a → OnlyAt (solid-at old j) new j
-upper-flags old new a j t f k n = eq-cases k a
-    (λ e. subst (λ k. new k ≡ old k) (sym e) (both (new a) (old a) (f .q-solid) t))
-    (λ m. f .off k m n) ∙ sym (solid-at-off old j k n)
-  where
-    both : (x y : Bool) → T x → T y → x ≡ y
-    both true true t u = refl
-
-lower-flags : (old new : ℕ → Bool) (a j : ℕ) → Flags old new a j a j → OnlyAt (solid-at old j) new a
-lower-flags old new a j f k n = eq-cases k j
-    (λ e. subst (λ k. new k ≡ solid-at old j k) (sym e) (both (new j) (solid-at old j j) (f .q-solid) (solid-at-j old j)))
-    (λ m. f .off k n m ∙ sym (solid-at-off old j k m))
-  where
-    both : (x y : Bool) → T x → T y → x ≡ y
-    both true true t u = refl
-
-module _ (P Q : Plane) (Y : Stitches) (old new : ℕ → Bool) (a j c : ℕ) (n : Neat P old) (t : T (old a)) (u : Is P a) (g : Good Q Y) where
-  abbrev mid : ℕ → Bool
-  mid = solid-at old j
-
-  -- the rows from c on become space, and a is what is left
-  pub carve-upper : Cut P Q a j c → Flags old new a j j a → Sided P old a → Carved Q new j × Sided Q new a
-  carve-upper s f d =
-      let b = s .box in
-      let ps = row-parts P Q a j c s in
-      let o = solid-at-off old j in
-      let tj = solid-at-j old j in
-      let (la, lj) = left-cut P Q old mid a j ps o t tj (not-fresh P Q a j c s a u) (d .left) in
-      let ra = right-cut P Q old mid a j ps o t tj a (b .a-r) (omega arith) (omega arith) (d .right) in
-      let rj = right-cut P Q old mid a j ps o t tj j (b .j-r) (omega arith) (omega arith) (d .right) in
-      let o′ = upper-flags old new a j t f in (
-        record {
-          loose = unpaint Q mid new j (cut-neat P Q old mid a j ps o t tj n) o′ rj lj;
-          space = record { is = is-made P Q a j c s; space = f .p-space };
-        },
-        record { left = left-unpaint Q mid new j a o′ (omega arith) la; right = right-unpaint Q mid new j a o′ (omega arith) ra },
-      )
-
-  -- the rows below c become space, and j is what is left
-  pub carve-lower : Cut P Q a j c → Flags old new a j a j → Sided P old a → Carved Q new a × Sided Q new j
-  carve-lower s f d =
-      let b = s .box in
-      let ps = row-parts P Q a j c s in
-      let o = solid-at-off old j in
-      let tj = solid-at-j old j in
-      let (la, lj) = left-cut P Q old mid a j ps o t tj (not-fresh P Q a j c s a u) (d .left) in
-      let ra = right-cut P Q old mid a j ps o t tj a (b .a-r) (omega arith) (omega arith) (d .right) in
-      let rj = right-cut P Q old mid a j ps o t tj j (b .j-r) (omega arith) (omega arith) (d .right) in
-      let o′ = lower-flags old new a j f in (
-        record {
-          loose = unpaint Q mid new a (cut-neat P Q old mid a j ps o t tj n) o′ ra la;
-          space = record { is = is-after P Q a j c s a u; space = f .p-space };
-        },
-        record { left = left-unpaint Q mid new a j o′ (omega arith) lj; right = right-unpaint Q mid new a j o′ (omega arith) rj },
-      )
-
-  -- the columns from c on become space, and a is what is left; its left side is as it was
-  pub carve-right : Cut (swap P) (swap Q) a j c → Flags old new a j j a → Sided P old a → Carved Q new j × LeftSolid Q new a
-  carve-right s f d =
-      let b = s .box in
-      let ps = column-parts P Q a j c s in
-      let o = solid-at-off old j in
-      let tj = solid-at-j old j in
-      let na = not-fresh (swap P) (swap Q) a j c s a (swap-is P a u) in
-      let uj = is-swap Q j (is-made (swap P) (swap Q) a j c s) in
-      let (la, lj) = left-cut P Q old mid a j ps o t tj na (d .left) in
-      let rj = right-cut P Q old mid a j ps o t tj j (b .j-t) (omega arith) (omega arith) (d .right) in
-      let o′ = upper-flags old new a j t f in
-      let w = g .formed j uj in (
-        record { loose = unpaint Q mid new j (cut-neat P Q old mid a j ps o t tj n) o′ rj lj; space = record { is = uj; space = f .p-space } },
-        left-unpaint Q mid new j a o′ (omega arith) la,
-      )
-
-  -- the columns left of c become space, and j is what is left
-  pub carve-left : Cut (swap P) (swap Q) a j c → Flags old new a j a j → LeftSolid P old a → Carved Q new a
-  carve-left s f l =
-      let b = s .box in
-      let ps = column-parts P Q a j c s in
-      let o = solid-at-off old j in
-      let tj = solid-at-j old j in
-      let na = not-fresh (swap P) (swap Q) a j c s a (swap-is P a u) in
-      let uj = is-swap Q j (is-made (swap P) (swap Q) a j c s) in
-      let ua = is-swap Q a (is-after (swap P) (swap Q) a j c s a (swap-is P a u)) in
-      let (la, lj) = left-cut P Q old mid a j ps o t tj na l in
-      let w = g .formed j uj in
-      let ra = right-one Q mid a j (g .disjoint) uj tj (omega arith) (omega arith) (omega arith) (w .wide) in
-      let o′ = lower-flags old new a j f in
-      record { loose = unpaint Q mid new a (cut-neat P Q old mid a j ps o t tj n) o′ ra la; space = record { is = ua; space = f .p-space } }
-
--- ---- the piece mended, and the sides of q kept: for the pieces above and below, which end at q's right side, as q does
-
-module _ (P Q : Plane) (sol : ℕ → Bool) (p m c q : ℕ) (f : WellFormed Q) (s : Cut P Q p m c) (d : Stacked Q sol p m) (u : Is P q) (tq : T (sol q)) where
-  pub mended-over : Carved Q sol p → Carved P sol p × ((k : ℕ) → Stacked P sol p k → ⊥)
-  mended-over v =
-      let (o, none) = mend-over P Q sol p m c f s (d .lower) (d .upper) (v .loose) in
-      (record { loose = o; space = record { is = s .is; space = d .lower .space } }, none)
-
-  pub mended-under : Carved Q sol m → ((k : ℕ) → Stacked Q sol m k → ⊥) → Neat P sol
-  mended-under v none = mend-under P Q sol p m c f s (d .lower) (d .upper) (v .loose) none
-
-  pub mended-sides : Q .r q ≡ Q .r p → Sided Q sol q → Sided P sol q
-  mended-sides e z = record {
-    left = left-join P Q sol p m c q s (d .lower) u tq (omega arith) (z .left);
-    right = right-join P Q sol p m c q s (d .lower) u tq (omega arith) (z .right);
-  }
-
-  -- and of the right piece, which begins where q ends: q's left side
-  pub mended-left : Q .r q ≤ Q .r p → LeftSolid Q sol q → LeftSolid P sol q
-  mended-left e z = left-join P Q sol p m c q s (d .lower) u tq e z
-
--- where there is nothing to join with
-pub not-mended : (Q : Plane) (Y : Stitches) (g : Good Q Y) (sol : ℕ → Bool) (p : ℕ) → Carved Q sol p
-    → (Stacked Q sol p (Y .rt p) → ⊥) → (Stacked Q sol (Y .lb p) p → ⊥) → Neat Q sol
-not-mended Q Y g sol p v over under = loose-neat Q sol p (v .loose) (none-over Q Y g sol p over) (none-under Q Y g sol p under)

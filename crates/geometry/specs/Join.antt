@@ -1,13 +1,12 @@
 -- The stitches after two tiles of one span, one directly above the other, are joined. Assumes nothing.
-use mathlib.Core.Path.{_≡_, refl, sym, ap, _∙_, subst, subst₂}
-use mathlib.Core.Bool.{Bool, true, false, not}
+use mathlib.Core.Path.{_≡_, sym, _∙_, subst, subst₂}
 use mathlib.Core.Logic.{_≢_}
-use Prim.Native.Nat.{ℕ, zero, suc, _+_, _-_, _≤_, _<_}
+use Prim.Native.Nat.{ℕ, _-_}
 use native.Mathlib.Omega.{arith}
-use Rattle.geometry.specs.Cases.{lt-cases, eq-cases}
-use Rattle.geometry.specs.Plane.{Plane, Cell, Is, At, Holds, Formed, WellFormed, Covered, Disjoint, Held, hi}
-use Rattle.geometry.specs.Stitches.{Stitches, UpAt, DownAt, HoldsUp, HoldsDown, Up, Down, Good, Same, same-tile, same, on-top}
-use Rattle.geometry.specs.Cut.{Cut, CutBox, SameBox, not-fresh, is-after, is-before, is-made, which, which-before, up-before, up-joined, down-before, down-joined, formed-before, covered-before, disjoint-before}
+use Rattle.geometry.specs.Cases.{eq-cases}
+use Rattle.geometry.specs.Plane.{Plane, Is}
+use Rattle.geometry.specs.Stitches.{Stitches, UpAt, DownAt, HoldsUp, HoldsDown, Up, Down, Good, same-tile, same, on-top}
+use Rattle.geometry.specs.Cut.{Cut, SameBox, is-after, is-made, which-before, up-before, up-joined, down-before, down-joined, formed-before, covered-before, disjoint-before}
 
 -- Q's tiles a and j become P's a: a stitch that named j names a
 pub record JoinStitches (P : Plane) (Y Z : Stitches) (a j : ℕ) : Type 0 where

@@ -1,12 +1,11 @@
--- Rectangular tiles over a square plane of cells: when they cover it exactly, and which tile holds a cell. Assumes nothing.
-use mathlib.Core.Path.{_≡_, refl, sym, ap, ap₂, _∙_, subst, subst₂}
-use mathlib.Core.Bool.{Bool, true, false, cond, _&&_}
-use mathlib.Core.Logic.{_≢_, _↔_}
-use Prim.Native.Nat.{ℕ, zero, suc, _+_, _-_, _*_, _≤_, _<_, min, zero-le}
+-- Rectangular tiles over a square plane of cells: when they cover it exactly. Assumes nothing.
+use mathlib.Core.Path.{_≡_, sym, ap₂, _∙_, subst, subst₂}
+use mathlib.Core.Bool.{Bool, true, false}
+use Prim.Native.Nat.{ℕ, zero, suc, _+_, _-_, _*_, _≤_, _<_}
 use native.Mathlib.Nat.{le-refl, mul-zero, mul-one, mul-le-mul, add-sub-of-le, add-zero}
 use native.Mathlib.Omega.{arith}
-use lib.Dec.{T, leb, ltb, leb→le, le→leb}
-use Rattle.geometry.specs.Cases.{lt-cases, below-suc, only, only-T, only-le, T-only, T-and, and-l, and-r}
+use lib.Dec.{T}
+use Rattle.geometry.specs.Cases.{lt-cases, only, only-T, only-le, T-only}
 use Rattle.geometry.specs.Sums.{sumTo, sum-ext, sum-mono, sum-const, sum-mul, sum-mul-right, sum-swap, sum-tight, sum-one, sum-le-one, sum-inb, inb, sum-prefix}
 
 -- R tiles over the cells (x, y) with lo ≤ x < lo + W and lo ≤ y < lo + W
@@ -206,47 +205,3 @@ module _ (P : Plane) where
       row : (k : ℕ) → P .lo + k < hi P → Held P (P .lo + k) y
       row zero h = rw add-zero (left y (p .y-lo) (p .y-hi))
       row (suc k) h = next k h (row k (omega arith))
-
-  -- ---- the tile that holds a cell, by search
-
-  abbrev holdsb : ℕ → ℕ → ℕ → Bool
-  holdsb x y i = P .used i && (leb (P .l i) x && (ltb x (P .r i) && (leb (P .b i) y && ltb y (P .t i))))
-
-  holdsb→ : (i x y : ℕ) → i < P .R → T (holdsb x y i) → Holds P i x y
-  holdsb→ i x y h t = search (and-l, and-r, leb→le)
-
-  →holdsb : (i x y : ℕ) → Holds P i x y → T (holdsb x y i)
-  →holdsb i x y h = search (T-and, le→leb)
-
--- the last number below n that passes a test, or 0
-unfoldable pub find : (ℕ → Bool) → ℕ → ℕ
-find p zero = zero
-find p (suc n) = let r = find p n in cond (p n) n r
-
-pub find-T : (p : ℕ → Bool) (n i : ℕ) → i < n → T (p i) → (find p n < n) × T (p (find p n))
-unfolding find
-find-T p zero i h t = absurd (omega arith)
-find-T p (suc n) i h t =
-    go (p n) refl (λ q. below-suc i n h (λ k. find-T p n i k t) (λ e. absurd (subst T q (subst (λ z. T (p z)) e t))))
-  where
-    go : (c : Bool) → p n ≡ c → (p n ≡ false → (find p n < n) × T (p (find p n)))
-        → (cond c n (find p n) < suc n) × T (p (cond c n (find p n)))
-    go true e f = (le-refl (suc n), rw e tt)
-    go false e f = (omega (arith, f e), f e .1)
-
-module _ (P : Plane) where
-  unfoldable pub holder : ℕ → ℕ → ℕ
-  holder x y = find (holdsb P x y) (P .R)
-
-  pub held-holder : (x y : ℕ) → Held P x y → Holds P (holder x y) x y
-  unfolding holder
-  held-holder x y (i, h) =
-      let f = find-T (holdsb P x y) (P .R) i (h .is .below) (→holdsb P i x y h) in
-      holdsb→ P (holder x y) x y (f .0) (f .1)
-
-  pub holder-holds : Covered P → (x y : ℕ) → Cell P x y → Holds P (holder x y) x y
-  holder-holds c x y p = held-holder x y (c x y p)
-
-  pub holder-iff : Covered P → Disjoint P → (x y i : ℕ) → Cell P x y → (holder x y ≡ i) ↔ Holds P i x y
-  holder-iff c d x y i p =
-      (λ e. subst (λ i. Holds P i x y) e (holder-holds c x y p), λ h. d (holder x y) i x y (holder-holds c x y p) h)

@@ -3,7 +3,7 @@ use mathlib.Core.Path.{_≡_, sym, subst, subst₂}
 use Prim.Native.Nat.{ℕ, _-_, _≤_, _<_}
 use native.Mathlib.Omega.{arith}
 use Rattle.geometry.specs.Cases.{lt-cases}
-use Rattle.geometry.specs.Picture.{LOW, HIGH, Has, Solids, In, Free, Run, Strip}
+use Rattle.geometry.specs.Picture.{Has, Solids, In, Free, Run, Strip}
 
 -- ---- two with a common cell
 

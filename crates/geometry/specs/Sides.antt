@@ -1,40 +1,17 @@
--- The walk along the other sides, in the plane's own numbers; and the loops of a split. Assumes nothing.
-use mathlib.Core.Path.{_≡_, refl, sym, ap, _∙_, subst}
+-- The loops of a split along the top, the right and the left side of a tile, in the plane's own numbers. Assumes nothing.
+use mathlib.Core.Path.{_≡_, sym, _∙_, subst}
 use mathlib.Core.Logic.{_≢_}
-use Prim.Native.Nat.{ℕ, zero, suc, _+_, _-_, _≤_, _<_}
+use Prim.Native.Nat.{ℕ, _<_}
 use native.Mathlib.Omega.{arith}
-use Rattle.geometry.specs.Cases.{lt-cases, eq-cases}
-use Rattle.geometry.specs.Plane.{Plane, Cell, Is, At, Holds, Formed, WellFormed, Covered, Disjoint, Held, hi}
-use Rattle.geometry.specs.Stitches.{Stitches, UpAt, DownAt, HoldsUp, HoldsDown, Up, Down, Good}
-use Rattle.geometry.specs.Turns.{swap, swap-stitches, turn, turn-stitches, opp, opp-lt, opp-eq, Point, swap-is, is-swap, turn-is, is-turn, swap-up, swap-down, up-turn, good-swap, good-turn, swap-good}
-use Rattle.geometry.specs.Walk.{Stands, Next, walk-next, Front, front-holds, Repointed, Over, over-lb, lb-over}
-use Rattle.geometry.specs.Cut.{Cut}
-use Rattle.geometry.specs.Split.{SplitStitches, split}
+use Rattle.geometry.specs.Cases.{eq-cases}
+use Rattle.geometry.specs.Plane.{Plane, Is}
+use Rattle.geometry.specs.Stitches.{Stitches, Up, Down, Good}
+use Rattle.geometry.specs.Turns.{swap, swap-stitches, turn, turn-stitches, opp, swap-is, is-swap, turn-is, is-turn, swap-up, swap-down, up-turn, good-swap, good-turn}
+use Rattle.geometry.specs.Walk.{Front, Repointed, over-lb}
+use Rattle.geometry.specs.Split.{SplitStitches}
 
 module _ (P : Plane) (Z : Stitches) (g : Good P Z) where
-  -- ---- `walk-next` at the right side and at the left side
-
-  pub record RightNext (a k n : ℕ) : Type 0 where
-    pub is : Is P n
-    pub left : P .l n ≡ P .r a
-    pub top : P .t n ≡ P .b k
-    pub high : P .b a < P .t n
-    pub low : P .b n < P .t a
-
-  pub right-next : (a k : ℕ) → Is P a → Is P k → P .l k ≡ P .r a → P .b k < P .t a → P .b a < P .b k → RightNext a k (Z .lb k)
-  right-next a k u v e h q =
-      let w = g .formed k v in
-      let s : Stands (swap P) a k = record { is = swap-is P k v; bottom = e; left = omega arith; right = omega arith } in
-      let n = walk-next (swap P) (swap-stitches Z) (good-swap P Z g) a k (swap-is P a u) s q in
-      let d = n .stands in
-      record { is = is-swap P (Z .lb k) (d .is); left = d .bottom; top = n .ends; high = omega arith; low = omega arith }
-
-  pub record LeftNext (a k n : ℕ) : Type 0 where
-    pub is : Is P n
-    pub right : P .r n ≡ P .l a
-    pub bottom : P .b n ≡ P .t k
-    pub high : P .b a < P .t n
-    pub low : P .b n < P .t a
+  -- ---- the plane seen from the left side
 
   abbrev pub L : Plane
   L = turn (swap P)
@@ -50,23 +27,6 @@ module _ (P : Plane) (Z : Stitches) (g : Good P Z) where
 
   pub left-is : (i : ℕ) → Is L i → Is P i
   left-is i u = is-swap P i (is-turn (swap P) i u)
-
-  pub left-next : (a k : ℕ) → Is P a → Is P k → P .r k ≡ P .l a → P .b a < P .t k → P .t k < P .t a → LeftNext a k (Z .rt k)
-  left-next a k u v e h q =
-      let w = g .formed k v in
-      let x = g .formed a u in
-      let s : Stands L a k = record { is = is-left k v; bottom = omega arith; left = omega arith; right = omega arith } in
-      let n = walk-next L LZ gl a k (is-left a u) s (omega arith) in
-      let d = n .stands in
-      let m = left-is (Z .rt k) (d .is) in
-      let z = g .formed (Z .rt k) m in
-      record {
-        is = m;
-        right = opp-eq P (P .r (Z .rt k)) (P .l a) (z .x-hi) (omega (arith, x)) (d .bottom);
-        bottom = opp-eq P (P .b (Z .rt k)) (P .t k) (omega (arith, z)) (w .y-hi) (n .ends);
-        high = opp-lt P (P .t (Z .rt k)) (P .b a) (d .right);
-        low = opp-lt P (P .t a) (P .b (Z .rt k)) (d .left);
-      }
 
   -- ---- the loops of a split at row c
   -- top side: `lb` that named a, to j. right side, from the top down to c: `bl`; it stops at kr. left side, from the bottom up to kl, over c: `tr`.
@@ -123,9 +83,3 @@ module _ (P : Plane) (Z : Stitches) (g : Good P Z) where
             s .tr-is i (fresh i v) n ∙ eq-cases (Z .tr i) a
             (λ e. let k′ = k e in s .left .before i (is-left i v) (omega arith)) (λ d. s .left .other i (is-left i v) d);
       }
-
--- ---- a split at a column: the same, seen from the right
-
-pub split-column : (P Q : Plane) (Z Y : Stitches) (a j c : ℕ) → Good P Z → Cut (swap P) (swap Q) a j c
-    → SplitStitches (swap P) (swap-stitches Z) (swap-stitches Y) a j c → Good Q Y
-split-column P Q Z Y a j c g s y = swap-good Q Y (split (swap P) (swap Q) (swap-stitches Z) (swap-stitches Y) a j c (good-swap P Z g) s y)

@@ -1,14 +1,13 @@
 -- The stitches after a tile is cut in two across. Assumes nothing.
-use mathlib.Core.Path.{_≡_, refl, sym, ap, _∙_, subst, subst₂}
-use mathlib.Core.Bool.{Bool, true, false, not}
+use mathlib.Core.Path.{_≡_, refl, sym, _∙_, subst, subst₂}
 use mathlib.Core.Logic.{_≢_}
-use Prim.Native.Nat.{ℕ, zero, suc, _+_, _-_, _≤_, _<_}
+use Prim.Native.Nat.{ℕ, _≤_, _<_}
 use native.Mathlib.Omega.{arith}
 use Rattle.geometry.specs.Cases.{lt-cases, eq-cases}
-use Rattle.geometry.specs.Plane.{Plane, Cell, Is, At, Holds, Formed, WellFormed, Covered, Disjoint, Held, hi}
-use Rattle.geometry.specs.Stitches.{Stitches, UpAt, DownAt, HoldsUp, HoldsDown, Up, Down, Good, Same, same-tile, same, on-top}
+use Rattle.geometry.specs.Plane.{Plane, Is}
+use Rattle.geometry.specs.Stitches.{Stitches, UpAt, DownAt, HoldsUp, HoldsDown, Up, Down, Good, same-tile, on-top}
 use Rattle.geometry.specs.Walk.{over-lb}
-use Rattle.geometry.specs.Cut.{Cut, CutBox, SameBox, not-fresh, is-after, is-before, is-made, which, which-before, up-after, up-made, down-after, down-made, formed-after, covered-after, disjoint-after}
+use Rattle.geometry.specs.Cut.{Cut, is-after, is-made, which, up-after, up-made, down-after, down-made, formed-after, covered-after, disjoint-after}
 
 -- what an edit does with a stitch that is not of the tiles it makes: n becomes n′
 pub record SplitStitches (P : Plane) (Z Y : Stitches) (a j c : ℕ) : Type 0 where

@@ -1,12 +1,9 @@
--- Corner stitches over numbered tiles: what they name, and the two turns of the plane that carry one side to the other three. Assumes nothing.
-use mathlib.Core.Path.{_≡_, refl, sym, ap, _∙_, subst}
-use mathlib.Core.Bool.{Bool, true, false, not}
-use mathlib.Core.Logic.{_≢_}
-use Prim.Native.Nat.{ℕ, zero, suc, _+_, _-_, _≤_, _<_}
+-- Corner stitches over numbered tiles: what they name, and where tiles of an exact cover lie that share a corner or a line. Assumes nothing.
+use mathlib.Core.Path.{_≡_, ap}
+use Prim.Native.Nat.{ℕ, _-_, _≤_, _<_}
 use native.Mathlib.Omega.{arith}
-use lib.Dec.{T}
-use Rattle.geometry.specs.Cases.{lt-cases, eq-cases}
-use Rattle.geometry.specs.Plane.{Plane, Cell, Is, At, Holds, Formed, WellFormed, Covered, Disjoint, Held, hi}
+use Rattle.geometry.specs.Cases.{lt-cases}
+use Rattle.geometry.specs.Plane.{Plane, Is, At, WellFormed, Covered, Disjoint, hi}
 
 -- A stitch is a tile's number, or `none`, which is no tile's. At a tile's upper right corner it has `rt`, the tile up and left of the corner,
 -- and `tr`, the tile down and right of it; at its lower left corner `bl`, up and left, and `lb`, down and right.
@@ -59,20 +56,6 @@ pub record Good (P : Plane) (Z : Stitches) : Type 0 where
   pub bl : (i : ℕ) → Is P i → Up P (Z .none) (Z .bl i) (P .l i) (P .b i)
   pub tr : (i : ℕ) → Is P i → Down P (Z .none) (Z .tr i) (P .r i) (P .t i)
   pub lb : (i : ℕ) → Is P i → Down P (Z .none) (Z .lb i) (P .l i) (P .b i)
-
--- ---- the same, by cells
-
-pub up-cell : (P : Plane) (n x y : ℕ) → HoldsUp P n (suc x) y → Holds P n x y
-up-cell P n x y h = record { is = h .is; at = omega arith }
-
-pub cell-up : (P : Plane) (n x y : ℕ) → Holds P n x y → HoldsUp P n (suc x) y
-cell-up P n x y h = record { is = h .is; at = omega arith }
-
-pub down-cell : (P : Plane) (n x y : ℕ) → HoldsDown P n x (suc y) → Holds P n x y
-down-cell P n x y h = record { is = h .is; at = omega arith }
-
-pub cell-down : (P : Plane) (n x y : ℕ) → Holds P n x y → HoldsDown P n x (suc y)
-cell-down P n x y h = record { is = h .is; at = omega arith }
 
 -- ---- geometry of an exact cover
 

@@ -1,15 +1,15 @@
 -- Ousterhout's bound: over n solid tiles there are at most 3 n + 1 space tiles, where the tiles cover the plane exactly, no space tile
 -- stands directly beside another, and no two of one span directly above each other. Assumes nothing.
-use mathlib.Core.Path.{_≡_, refl, sym, ap, _∙_, subst}
-use mathlib.Core.Bool.{Bool, true, false, not, _&&_}
+use mathlib.Core.Path.{_≡_, sym, ap}
+use mathlib.Core.Bool.{Bool, not, _&&_}
 use mathlib.Core.Logic.{_⊎_, inl, inr}
-use Prim.Native.Nat.{ℕ, zero, suc, _+_, _-_, _*_, _≤_, _<_, zero-le}
+use Prim.Native.Nat.{ℕ, zero, suc, _+_, _-_, _*_, _≤_, _<_}
 use native.Mathlib.Omega.{arith}
 use lib.Dec.{T, T-not}
 use Rattle.geometry.specs.Cases.{lt-cases, eq-cases, only, only-T, T-and, and-l, and-r, T-of, T-cases}
-use Rattle.geometry.specs.Sums.{sumTo, sum-head}
+use Rattle.geometry.specs.Sums.{sum-head}
 use Rattle.geometry.specs.Count.{count, sum-weight, rooms}
-use Rattle.geometry.specs.Plane.{Plane, Cell, Is, At, Holds, Formed, WellFormed, Covered, Disjoint, Held, hi}
+use Rattle.geometry.specs.Plane.{Plane, Is, At, Holds, WellFormed, Covered, Disjoint, hi}
 
 pub record Space (P : Plane) (solid : ℕ → Bool) (i : ℕ) : Type 0 where
   pub is : Is P i

@@ -1,11 +1,10 @@
 -- Finite sums over 0 .. n - 1. Assumes nothing.
-use mathlib.Core.Path.{_≡_, refl, sym, ap₂, _∙_}
-use mathlib.Core.Bool.{Bool, true, false}
+use mathlib.Core.Path.{_≡_, refl, ap₂}
 use mathlib.Core.Logic.{_≢_}
 use Prim.Native.Nat.{ℕ, zero, suc, _+_, _-_, _*_, _≤_, _<_, min, zero-le}
 use native.Mathlib.Nat.{le-refl}
 use native.Mathlib.Omega.{arith}
-use Rattle.geometry.specs.Cases.{lt-cases, eq-cases, below-suc, only}
+use Rattle.geometry.specs.Cases.{lt-cases, below-suc}
 
 unfoldable pub sumTo : ℕ → (ℕ → ℕ) → ℕ
 sumTo zero f = 0
@@ -99,10 +98,6 @@ pub sum-inb : (n lo l r : ℕ) → lo ≤ l → l ≤ r → r ≤ lo + n → sum
 sum-inb n lo l r h k q =
     let e : sumTo n (λ k. inb l r (lo + k) + under l (lo + k)) ≡ sumTo n (λ k. under r (lo + k)) = sum-ext n (λ j p. omega arith) in
     omega (arith, e, sum-add n (λ k. inb l r (lo + k)) (λ k. under l (lo + k)), sum-under n lo l, sum-under n lo r)
-
-pub sum-only : (n : ℕ) (b : Bool) (f : ℕ → ℕ) → sumTo n (λ k. only b (f k)) ≡ only b (sumTo n f)
-sum-only n true f = refl
-sum-only n false f = omega (arith, sum-const n 0)
 
 -- at most one term is positive, and it is at most 1
 pub sum-le-one : (n : ℕ) (f : ℕ → ℕ) → ((i : ℕ) → i < n → f i ≤ 1) → ((i j : ℕ) → i < n → j < n → 1 ≤ f i → 1 ≤ f j → i ≡ j) → sumTo n f ≤ 1

@@ -1,16 +1,16 @@
 -- The strips under edits: a tile painted, cut, made space again, and mended with the tile above and the tile below. Assumes nothing.
-use mathlib.Core.Path.{_≡_, refl, sym, ap, _∙_, subst}
-use mathlib.Core.Bool.{Bool, true, false, not}
+use mathlib.Core.Path.{_≡_, sym, subst}
+use mathlib.Core.Bool.{Bool, not}
 use mathlib.Core.Logic.{_≢_}
-use Prim.Native.Nat.{ℕ, zero, suc, _+_, _-_, _≤_, _<_}
+use Prim.Native.Nat.{ℕ, _≤_, _<_}
 use native.Mathlib.Omega.{arith}
 use lib.Dec.{T, T-not}
 use Rattle.geometry.specs.Cases.{lt-cases, eq-cases}
-use Rattle.geometry.specs.Plane.{Plane, Cell, Is, At, Holds, Formed, WellFormed, Covered, Disjoint, Held, hi}
+use Rattle.geometry.specs.Plane.{Plane, Is, Holds, WellFormed}
 use Rattle.geometry.specs.Strips.{Strips, Space}
-use Rattle.geometry.specs.Stitches.{Stitches, HoldsUp, HoldsDown, Good, Same, same-tile, same, up-one, down-one}
+use Rattle.geometry.specs.Stitches.{Stitches, Good, same-tile, same, up-one, down-one}
 use Rattle.geometry.specs.Turns.{swap, swap-is, is-swap, swap-holds, holds-swap}
-use Rattle.geometry.specs.Cut.{Cut, CutBox, SameBox, not-fresh, is-after, is-before, is-made, which-before, holds-after, holds-made, holds-before, holds-joined}
+use Rattle.geometry.specs.Cut.{Cut, SameBox, not-fresh, is-after, is-before, which-before, holds-after, holds-made, holds-before, holds-joined}
 
 -- two space tiles of one span, k directly above i
 pub record Stacked (P : Plane) (sol : ℕ → Bool) (i k : ℕ) : Type 0 where

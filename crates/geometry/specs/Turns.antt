@@ -1,11 +1,9 @@
 -- The plane seen from its four sides. `swap` exchanges x and y, and `turn` is half a turn: what is proved of a tile's top side holds by
 -- `swap` of its right side, by `turn` of its bottom side, and by both of its left side. Assumes nothing.
-use mathlib.Core.Path.{_≡_, refl, sym, ap, _∙_, subst}
-use Prim.Native.Nat.{ℕ, zero, suc, _+_, _-_, _≤_, _<_}
+use Prim.Native.Nat.{ℕ, _+_, _-_, _≤_, _<_}
 use native.Mathlib.Omega.{arith}
-use Rattle.geometry.specs.Cases.{lt-cases, eq-cases}
-use Rattle.geometry.specs.Plane.{Plane, Cell, Is, At, Holds, Formed, WellFormed, Covered, Disjoint, Held, hi}
-use Rattle.geometry.specs.Stitches.{Stitches, UpAt, DownAt, HoldsUp, HoldsDown, Up, Down, Good}
+use Rattle.geometry.specs.Plane.{Plane, Cell, Is, Holds, WellFormed}
+use Rattle.geometry.specs.Stitches.{Stitches, Up, Down, Good}
 
 abbrev pub swap : Plane → Plane
 swap P = record { R = P .R; lo = P .lo; W = P .W; used = P .used; l = P .b; b = P .l; r = P .t; t = P .r }
@@ -63,9 +61,6 @@ opp P x = P .lo + P .lo + P .W - x
 -- to read a number seen from the other side: one `-` at a time, since `omega` stops at more than six
 pub opp-lt : (P : Plane) (x y : ℕ) → opp P x < opp P y → y < x
 opp-lt P x y h = omega arith
-
-pub opp-eq : (P : Plane) (x y : ℕ) → x ≤ hi P → y ≤ hi P → opp P x ≡ opp P y → x ≡ y
-opp-eq P x y h k e = omega arith
 
 abbrev pub turn : Plane → Plane
 turn P = record {

@@ -1,13 +1,12 @@
--- The walk along a tile's top side, from right to left: which tiles it meets, a step of a search, and the stitches that name the tile.
+-- The walk along a tile's top side, from right to left: which tiles it meets, and the stitches that name the tile.
 -- The other three sides are the same, seen by `swap` and `turn`. Assumes nothing.
-use mathlib.Core.Path.{_≡_, refl, sym, ap, _∙_, subst}
-use mathlib.Core.Logic.{_≢_, _↔_, _⊎_, inl, inr}
-use Prim.Native.Nat.{ℕ, zero, suc, _+_, _-_, _≤_, _<_}
-use native.Mathlib.Nat.{le-refl}
+use mathlib.Core.Path.{_≡_, ap, _∙_, subst}
+use mathlib.Core.Logic.{_≢_}
+use Prim.Native.Nat.{ℕ, _≤_, _<_}
 use native.Mathlib.Omega.{arith}
 use Rattle.geometry.specs.Cases.{lt-cases, eq-cases}
-use Rattle.geometry.specs.Plane.{Plane, Cell, Is, At, Holds, Formed, WellFormed, Covered, Disjoint, Held, hi}
-use Rattle.geometry.specs.Stitches.{Stitches, UpAt, DownAt, HoldsUp, HoldsDown, Up, Down, Good, Same, same-tile, same, up-one, down-one, on-top, on-left, apart}
+use Rattle.geometry.specs.Plane.{Plane, Is, At, hi}
+use Rattle.geometry.specs.Stitches.{Stitches, HoldsUp, Up, Good, Same, same-tile, same, down-one, on-top, on-left, apart}
 
 -- tile k stands on the top side of a
 pub record Stands (P : Plane) (a k : ℕ) : Type 0 where
@@ -20,11 +19,6 @@ pub record Stands (P : Plane) (a k : ℕ) : Type 0 where
 pub record Next (P : Plane) (a k n : ℕ) : Type 0 where
   pub stands : Stands P a n
   pub ends : P .r n ≡ P .l k
-
--- the tiles of the walk
-pub data Walk (P : Plane) (Z : Stitches) (a : ℕ) : ℕ → Type 0 where
-  first : Walk P Z a (Z .rt a)
-  further : {k : ℕ} → Walk P Z a k → P .l a < P .l k → Walk P Z a (Z .bl k)
 
 module _ (P : Plane) (Z : Stitches) (g : Good P Z) where
   same′ : (i j x y : ℕ) → Is P i → Is P j → At P i x y → At P j x y → Same P i j
@@ -65,40 +59,6 @@ module _ (P : Plane) (Z : Stitches) (g : Good P Z) where
       let n = walk-next a k u s (omega arith) in
       let z = g .formed m (q .is) in
       among a (Z .bl k) m (n .stands) q before one (λ o. absurd (omega arith))
-
-  pub walk-stands : (a k : ℕ) → Is P a → P .t a < hi P → Walk P Z a k → Stands P a k
-  walk-stands a k u h first = walk-start a u h .0
-  walk-stands a k u h (further {k = m} w q) = walk-next a m u (walk-stands a m u h w) q .stands
-
-  walk-all : (a m : ℕ) → Is P a → P .t a < hi P → Stands P a m
-      → (n k : ℕ) → P .l k ≤ n → Walk P Z a k → P .r m ≤ P .l k → Walk P Z a m
-  walk-all a m u h q zero k e w o = absurd (let z = g .formed m (q .is) in omega arith)
-  walk-all a m u h q (suc n) k e w o =
-      let s = walk-stands a k u h w in
-      let d = walk-next a k u s (omega arith) in
-      let z = g .formed (Z .bl k) (d .stands .is) in
-      meets-next a k m u s q o (λ c. subst (Walk P Z a) (sym c) (further w (omega arith)))
-      (λ o′. walk-all a m u h q n (Z .bl k) (omega arith) (further w (omega arith)) o′)
-
-  pub stands-walk : (a m : ℕ) → Is P a → P .t a < hi P → Stands P a m → Walk P Z a m
-  stands-walk a m u h q =
-      meets-start a m u h q (λ c. subst (Walk P Z a) (sym c) first) (λ o. walk-all a m u h q (P .l (Z .rt a)) (Z .rt a) (le-refl _) first o)
-
-  -- ---- a step of a search: over column x of a, the walk stops at the tile directly above
-
-  pub find-start : (a x : ℕ) → Is P a → P .t a < hi P → P .l a ≤ x → x < P .r a → Stands P a (Z .rt a) × (x < P .r (Z .rt a))
-  find-start a x u h p q = let (s, e) = walk-start a u h in (s, omega arith)
-
-  pub find-next : (a k x : ℕ) → Is P a → Stands P a k → P .l a ≤ x → x < P .l k
-      → Stands P a (Z .bl k) × (x < P .r (Z .bl k)) × (P .l (Z .bl k) < P .l k)
-  find-next a k x u s p q =
-      let n = walk-next a k u s (omega arith) in
-      let w = g .formed (Z .bl k) (n .stands .is) in
-      (n .stands, omega arith, omega arith)
-
-  -- it is nearer the row y above a, and still over x
-  pub find-ends : (a k x y : ℕ) → Stands P a k → P .t a ≤ y → P .l k ≤ x → x < P .r k → (P .b k ≤ y) × (P .t a < P .t k)
-  find-ends a k x y s h p q = let w = g .formed k (s .is) in omega arith
 
   -- ---- the tiles whose `lb` names a
 
@@ -191,9 +151,6 @@ pub record Repointed (P : Plane) (a j p p₀ : ℕ) (old new : ℕ → ℕ) : Ty
   pub before : (m : ℕ) → Is P m → p₀ ≤ P .l m → new m ≡ old m
 
 module _ (P : Plane) (Z : Stitches) (g : Good P Z) where
-  pub repoint-start : (a j p : ℕ) → Repointed P a j p p (Z .lb) (Z .lb)
-  repoint-start a j p = record { changed = λ m u e h k. absurd (omega arith); other = λ m u n. refl; ahead = λ m u h. refl; before = λ m u h. refl }
-
   -- the loop's test reads what was there before
   pub repoint-reads : (a j k p p₀ : ℕ) (new : ℕ → ℕ) → Front P Z g a k p → k ≢ Z .none → Repointed P a j p p₀ (Z .lb) new → new k ≡ Z .lb k
   repoint-reads a j k p p₀ new f n s = let v = front-holds P Z g a k p f n in s .ahead k (v .is) (omega arith)

@@ -1,14 +1,14 @@
 -- Words and records go to bytes and back. Assumes nothing.
-use mathlib.Core.Path.{_≡_, refl, sym, ap, _∙_}
-use mathlib.Core.List.{List, [], _∷_, _++_, append-assoc}
+use mathlib.Core.Path.{_≡_, refl, ap, _∙_}
+use mathlib.Core.List.{List, [], _∷_, _++_}
 use Prim.Native.Nat.{ℕ, zero, suc, _+_, _-_, _*_, _/_, _%_, _≤_, _<_, _^_}
 use native.Mathlib.Omega.{arith}
 use native.Mathlib.Nat.{not-suc-le-zero, le-of-suc-le-suc}
-use lib.ListN.{length, getD, drop, length-append, drop-of-length-le}
-use lib.Seq.{getD-append-add, drop-cons, ext-getD}
+use lib.ListN.{length, getD, length-append}
+use lib.Seq.{getD-append-add, ext-getD}
 use Rattle.layout.specs.declared.bytes.Saved.{Saved}
 use Rattle.layout.specs.Patch.{patch, patch-then}
-use Rattle.layout.specs.Bytes.{complement, bytesOf, recordBytes, fileBytes, wordAt, savedAt, tabulate, recordsIn, SavedFits, AllFit, AreBytes}
+use Rattle.layout.specs.Bytes.{complement, bytesOf, recordBytes, fileBytes, wordAt, savedAt, tabulate, recordsIn, SavedFits, AllFit}
 
 -- the two directions of two's complement
 pub complement-twice : (w : ℕ) → w < 2 ^ 32 → complement (complement w) ≡ w
@@ -31,41 +31,11 @@ bytes-sum u h =
     let c : u / 16777216 % 256 ≡ u / 16777216 = omega arith in
     omega arith
 
--- and four bytes are those of the number that they make
-abbrev joined : ℕ → ℕ → ℕ → ℕ → ℕ
-joined a b c d = a + 256 * b + 65536 * c + 16777216 * d
-
-joined-fits : (a b c d : ℕ) → a < 256 → b < 256 → c < 256 → d < 256 → joined a b c d < 2 ^ 32
-joined-fits a b c d ha hb hc hd = omega arith
-
-byte-0 : (a b c d : ℕ) → a < 256 → joined a b c d % 256 ≡ a
-byte-0 a b c d ha = omega arith
-
-byte-1 : (a b c d : ℕ) → a < 256 → b < 256 → joined a b c d / 256 % 256 ≡ b
-byte-1 a b c d ha hb = let e : joined a b c d / 256 ≡ b + 256 * (c + 256 * d) = omega arith in omega arith
-
-byte-2 : (a b c d : ℕ) → a < 256 → b < 256 → c < 256 → joined a b c d / 65536 % 256 ≡ c
-byte-2 a b c d ha hb hc = let e : joined a b c d / 65536 ≡ c + 256 * d = omega arith in omega arith
-
-byte-3 : (a b c d : ℕ) → a < 256 → b < 256 → c < 256 → d < 256 → joined a b c d / 16777216 % 256 ≡ d
-byte-3 a b c d ha hb hc hd = let e : joined a b c d / 16777216 ≡ d = omega arith in omega arith
-
-joined-bytes : (a b c d : ℕ) → a < 256 → b < 256 → c < 256 → d < 256 → bytesOf (complement (joined a b c d)) ≡ a ∷ b ∷ c ∷ d ∷ []
-unfolding bytesOf
-joined-bytes a b c d ha hb hc hd =
-    ap (λ u. u % 256 ∷ u / 256 % 256 ∷ u / 65536 % 256 ∷ u / 16777216 % 256 ∷ [])
-    (complement-twice (joined a b c d) (joined-fits a b c d ha hb hc hd))
-    ∙ rw (byte-0 a b c d ha, byte-1 a b c d ha hb, byte-2 a b c d ha hb hc, byte-3 a b c d ha hb hc hd)
-
 -- ---- a word and its bytes
 
 word-first : (w : ℕ) (rest : List ℕ) → w < 2 ^ 32 → wordAt (bytesOf w ++ rest) 0 ≡ w
 unfolding wordAt bytesOf
 word-first w rest h = ap complement (bytes-sum (complement w) (complement-fits w)) ∙ complement-twice w h
-
-pub word-bytes : (w : ℕ) → w < 2 ^ 32 → wordAt (bytesOf w) 0 ≡ w
-unfolding wordAt bytesOf
-word-bytes w h = word-first w [] h
 
 word-shift : (p q : List ℕ) (n m : ℕ) → m ≡ length p + n → wordAt (p ++ q) m ≡ wordAt q n
 unfolding wordAt
@@ -146,45 +116,7 @@ saved-file (s ∷ ss) zero d f h = saved-first s (fileBytes ss) (f 0 d h)
 saved-file (s ∷ ss) (suc n) d f h =
     saved-next s (fileBytes ss) n ∙ saved-file ss n d (λ k e l. f (suc k) e (omega arith)) (omega arith)
 
--- ---- and back: bytes in whole records are the bytes of those records
-
-word-drop : (bs : List ℕ) (at next : ℕ) → AreBytes bs → next ≡ at + 4 → next ≤ length bs → drop at bs ≡ bytesOf (wordAt bs at) ++ drop next bs
-unfolding wordAt
-word-drop bs at next f e h =
-    let d : drop at bs ≡ getD bs at 0 ∷ getD bs (at + 1) 0 ∷ getD bs (at + 2) 0 ∷ getD bs (at + 3) 0 ∷ drop next bs =
-    one at (at + 1) (omega arith) (omega arith) ∙ ap (λ l. getD bs at 0 ∷ l)
-    (one (at + 1) (at + 2) (omega arith) (omega arith) ∙ ap (λ l. getD bs (at + 1) 0 ∷ l)
-    (one (at + 2) (at + 3) (omega arith) (omega arith) ∙ ap (λ l. getD bs (at + 2) 0 ∷ l)
-    (one (at + 3) next (omega arith) (omega arith)))) in
-    d ∙ ap (λ l. l ++ drop next bs)
-    (sym (joined-bytes (getD bs at 0) (getD bs (at + 1) 0) (getD bs (at + 2) 0) (getD bs (at + 3) 0) (f at) (f (at + 1)) (f (at + 2)) (f (at + 3))))
-  where
-    one : (j k : ℕ) → k ≡ suc j → j < length bs → drop j bs ≡ getD bs j 0 ∷ drop k bs
-    one j k q l = drop-cons bs j 0 l ∙ ap (λ i. getD bs j 0 ∷ drop i bs) (sym q)
-
-saved-drop : (bs : List ℕ) (n : ℕ) → AreBytes bs → 20 * n + 20 ≤ length bs → drop (20 * n) bs ≡ recordBytes (savedAt bs n) ++ drop (20 * suc n) bs
-unfolding recordBytes savedAt
-saved-drop bs n f h =
-    let w₁ = word-drop bs (20 * n) (20 * n + 4) f refl (omega arith) in
-    let w₂ = word-drop bs (20 * n + 4) (20 * n + 8) f (omega arith) (omega arith) in
-    let w₃ = word-drop bs (20 * n + 8) (20 * n + 12) f (omega arith) (omega arith) in
-    let w₄ = word-drop bs (20 * n + 12) (20 * n + 16) f (omega arith) (omega arith) in
-    let w₅ = word-drop bs (20 * n + 16) (20 * suc n) f (omega arith) (omega arith) in
-    w₁ ∙ rw (w₂, w₃, w₄, w₅) (simp append-assoc)
-
-tabulated : (bs : List ℕ) (m n : ℕ) (g : ℕ → Saved) → AreBytes bs → ((j : ℕ) → g j ≡ savedAt bs (n + j)) → length bs ≡ 20 * n + 20 * m
-    → fileBytes (tabulate m g) ≡ drop (20 * n) bs
-unfolding fileBytes tabulate
-tabulated bs zero n g f e h = let l : length bs ≤ 20 * n = omega arith in sym (drop-of-length-le bs l)
-tabulated bs (suc m) n g f e h =
-    let n₀ : n + 0 ≡ n = omega arith in
-    let e₀ : g 0 ≡ savedAt bs n = e 0 ∙ ap (savedAt bs) n₀ in
-    let go = tabulated bs m (suc n) (λ k. g (suc k)) f (λ j. let k : n + suc j ≡ suc n + j = omega arith in e (suc j) ∙ ap (savedAt bs) k) (omega arith) in
-    ap (λ l. recordBytes (g 0) ++ l) go ∙ ap (λ s. recordBytes s ++ drop (20 * suc n) bs) e₀ ∙ sym (saved-drop bs n f (omega arith))
-
-pub file-saved : (bs : List ℕ) → AreBytes bs → length bs % 20 ≡ 0 → fileBytes (recordsIn bs) ≡ bs
-unfolding recordsIn
-file-saved bs f h = tabulated bs (length bs / 20) 0 (savedAt bs) f (λ j. let k : j ≡ 0 + j = omega arith in ap (savedAt bs) k) (omega arith)
+-- ---- the records of a file
 
 pub recordsIn-length : (bs : List ℕ) → length (recordsIn bs) ≡ length bs / 20
 unfolding recordsIn tabulate

@@ -1,12 +1,11 @@
 -- The ruler: a word, an i32, read as the natural number that is 2^31 more, so that omega reads it. Assumes nothing.
-use mathlib.Core.Path.{_≡_, refl, sym, ap, _∙_, subst}
+use mathlib.Core.Path.{_≡_, refl, sym, ap, _∙_}
 use mathlib.Core.Bool.{Bool, true, false, cond}
-use mathlib.Core.Logic.{_↔_}
 use Prim.Native.Nat.{ℕ, suc, _+_, _-_, _%_, _<_, _≤_, _^_}
 use native.Mathlib.Omega.{arith}
-use lib.Dec.{T, ltb, ltb→lt, lt→ltb}
+use lib.Dec.{ltb, ltb→lt, lt→ltb}
 use lib.IntN.{ℤ, pos, negsuc, _+ℤ_, _-ℤ_}
-use lib.Signed.{mag, _<ℤ_, ltZ-yes}
+use lib.Signed.{_<ℤ_, ltZ-yes}
 use borrow.Author.Tests.{lt-ltb, le-ltb, ltb-true, ltb-false}
 use mir.Syntax.{w32}
 use mir.Val.{SFits, toZ, ofZ}
@@ -113,9 +112,6 @@ pub record AtIs (x : ℤ) (r : ℕ) : Type 0 where
 -- a signed local holds bits: what is read back from them
 pub ruler-bits : (x : ℤ) → SFits w32 x → ruler (toZ w32 (ofZ w32 x)) ≡ ruler x
 ruler-bits x f = ap ruler (toZ-ofZ f)
-
-pub word-bits : (n : ℕ) (r : ℤ) → mag r < 2 ^ 31 → r ≡ word n → n < 2 ^ 32 → ruler (toZ w32 (ofZ w32 r)) ≡ n
-word-bits n r f e h = ruler-bits r (record { sfits = f }) ∙ ap ruler e ∙ ruler-word n h
 
 -- a count and its number
 pub ruler-pos : (n : ℕ) → ruler (pos n) ≡ n + 2147483648

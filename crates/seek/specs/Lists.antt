@@ -9,9 +9,6 @@ use lib.Seq.{ext-getD, getD-at}
 use Rattle.geometry.specs.Cases.{lt-cases, eq-cases, below-suc}
 use Rattle.seek.specs.Meaning.{Lists}
 
-abbrev pub Among : List ℕ → ℕ → Type 0
-Among ks k = (n : ℕ) × (n < length ks) × (getD ks n 0 ≡ k)
-
 -- those of the records with Q that are met already
 pub record Passed (Q Met : ℕ → Type 0) (k : ℕ) : Type 0 where
   pub is : Q k

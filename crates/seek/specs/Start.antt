@@ -38,8 +38,5 @@ not-past t i f h = let (k, u) = some-used t f in omega (arith, h k u, u .below)
 pub pass-free : (t : List ℤ) (i : ℕ) → NonePassed t i → num t i KIND ≡ FREE → NonePassed t (i + 1)
 pass-free t i h e k u = eq-cases i k (λ c. absurd (u .used (subst (λ k. num t k KIND ≡ FREE) c e))) (λ n. omega (arith, h k u))
 
-pub starts-first : (t : List ℤ) (hint r : ℕ) → (Hints t hint → ⊥) → FirstUsed t r → Starts t hint r
-starts-first t hint r n f = record { used = f .used; hinted = λ h. absurd (n h); first = λ _. f }
-
 pub starts-hinted : (t : List ℤ) (hint r : ℕ) → ZERO ≤ hint → r ≡ hint - ZERO → UsedIn t r → Starts t hint r
 starts-hinted t hint r h e u = record { used = u; hinted = λ _. e; first = λ n. absurd (n (record { from = h; used = subst (UsedIn t) e u })) }

@@ -1,5 +1,5 @@
 -- The form of a sound table that proofs use, and that it is the same as the definition. Assumes nothing.
-use mathlib.Core.Path.{_≡_, refl, sym, ap, subst}
+use mathlib.Core.Path.{_≡_, sym, ap, subst}
 use mathlib.Core.List.{List}
 use Prim.Native.Nat.{ℕ, _+_, _-_, _*_, _≤_, _<_}
 use native.Mathlib.Omega.{arith}
@@ -45,13 +45,6 @@ pub record Forms (t : List ℤ) : Type 0 where
   pub few : solidsIn t ≤ capacity (recordsOf t)
 
 -- ---- stitch words as numbers
-
--- the word of record j, and back
-pub link-record : (j : ℕ) → j < ZERO → link (ZERO + j) ≡ j
-link-record j h = omega arith
-
-pub link-none : link NONE ≡ none
-link-none = refl
 
 -- what is read of a word, of 32 bits
 pub link-bits : (w : ℕ) → w < 4294967296 → bits w ≡ link w

@@ -7,10 +7,10 @@ use native.Mathlib.Omega.{arith}
 use lib.IntN.{ℤ}
 use lib.ListN.{length, getD}
 use Rattle.geometry.specs.Cases.{eq-cases}
-use Rattle.geometry.specs.Picture.{SPACE, SOLID, Tile, Has, Limits, Solids, In, number, Apart, Strip, TileOf, Drawn}
-use Rattle.geometry.specs.Runs.{SameSolids, same-turned, same-strips}
+use Rattle.geometry.specs.Picture.{SPACE, SOLID, Tile, Has, Limits, In, number, Apart, Strip, TileOf, Drawn}
+use Rattle.geometry.specs.Runs.{SameSolids, same-turned}
 use Rattle.geometry.specs.Tiling.{one-holder}
-use Rattle.geometry.specs.DrawnWidest.{drawn-count}
+use Rattle.geometry.specs.DrawnWidest.{drawn-count, same-tile-of}
 use Rattle.table.specs.Words.{LEFT, BOTTOM, RIGHT, TOP, KIND, recordsOf, num, tileOf}
 use Rattle.table.specs.Sound.{SizeRight, SoundFor, solidsIn}
 use Rattle.table.specs.Fresh.{freshTable}
@@ -160,10 +160,6 @@ history-shown t S (History.step {t = u} {S = R} h s) = step-shown u t R S (histo
 
 -- ---- what follows: the table is sound for the account's own solids
 
-tile-there : (S S′ : Solids) → SameSolids S S′ → (v : Tile) → TileOf S v → TileOf S′ v
-tile-there S S′ e v (TileOf.solid k u c) = let (j, o, q) = e .there k u in TileOf.solid j o (c ∙ sym q)
-tile-there S S′ e v (TileOf.space k l s) = TileOf.space k l (same-strips S S′ e (v .left) (v .bottom) (v .right) (v .top) s)
-
 module _ (t : List ℤ) (S : List Tile) (k : Shown t S) where
   of-account : (j : ℕ) → In (setOf S) j → Shows t (getD S j blank)
   of-account j u = k .solids (getD S j blank) .0 (at-among S j (u .below))
@@ -193,8 +189,8 @@ module _ (t : List ℤ) (S : List Tile) (k : Shown t S) where
   account-drawn =
       let d = own-drawn t (k .fit) in
       record {
-        each = λ i u. tile-there (ownSolids t) (setOf S) account-same (tileOf t i) (d .each i u);
-        all = λ v o. d .all v (tile-there (setOf S) (ownSolids t) (same-turned (ownSolids t) (setOf S) account-same) v o);
+        each = λ i u. same-tile-of (ownSolids t) (setOf S) account-same (tileOf t i) (d .each i u);
+        all = λ v o. d .all v (same-tile-of (setOf S) (ownSolids t) (same-turned (ownSolids t) (setOf S) account-same) v o);
         once = d .once;
       }
 

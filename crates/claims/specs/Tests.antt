@@ -2,18 +2,19 @@
 use mathlib.Core.Path.{_≡_, sym, subst}
 use mathlib.Core.Bool.{Bool, true, false, not, _&&_, _||_}
 use mathlib.Core.List.{List, [], _∷_, List·Memᴰ·head, List·Memᴰ·tail}
-use Prim.Native.Nat.{ℕ, zero, suc, _-_, _≤_, _<_, max}
+use Prim.Native.Nat.{ℕ, zero, suc, _-_, _<_, max}
 use native.Mathlib.Omega.{arith}
 use lib.IntN.{ℤ}
 use lib.ListN.{length, getD}
-use lib.Dec.{T, eqb, leb, ltb, eqb→eq, leb→le, le→leb, T-not}
+use lib.Dec.{T, eqb, leb, ltb, eqb→eq, leb→le, T-not}
 use Rattle.geometry.specs.Cases.{T-and, and-l, and-r}
-use Rattle.geometry.specs.Picture.{FREE, SOLID, Tile, Has}
+use Rattle.geometry.specs.Picture.{SOLID, Tile}
 use Rattle.geometry.specs.Turns.{top}
-use Rattle.geometry.specs.Tiling.{tile-ext, eq→eqb, neq→eqb}
+use Rattle.geometry.specs.Tiling.{tile-ext, eq→eqb}
 use Rattle.table.specs.Words.{LEFT, BOTTOM, RIGHT, TOP, KIND, recordsOf, num, tileOf}
 use Rattle.table.specs.Sound.{UsedIn, solidAt}
-use Rattle.table.specs.Decide.{allBelow, all-below}
+use Rattle.table.specs.Forms.{is-used, used-is}
+use Rattle.table.specs.Decide.{allBelow, all-below, or-cases, le-T, usedb, hasb, hasb-has, has-hasb}
 use Rattle.seek.specs.Meaning.{SolidIn, Area, Lists, Over, Meets, Root, Hangs}
 use Rattle.seek.specs.Find.{Finds}
 use Rattle.seek.specs.Neighbours
@@ -22,10 +23,6 @@ use Rattle.ushanderi.specs.Promises.{Fit}
 use Rattle.claims.specs.AgreePicture.{Shows}
 use Rattle.claims.specs.History.{Among}
 use Rattle.claims.specs.Draws.{Draws}
-
-or-cases : {C : Type 0} (a b : Bool) → T (a || b) → (T a → C) → (T b → C) → C
-or-cases true b t f g = f tt
-or-cases false b t f g = g t
 
 -- some number below n passes
 unfoldable pub someBelow : (ℕ → Bool) → ℕ → Bool
@@ -134,18 +131,11 @@ module _ (Q : ℕ → Type 0) (P : ℕ → ℕ → Type 0) (q : ℕ → Bool) (p
 
 -- ---- one record
 
-abbrev usedb : List ℤ → ℕ → Bool
-usedb t k = not (eqb (num t k KIND) FREE)
-
 usedb-used : (t : List ℤ) (k : ℕ) → k < recordsOf t → T (usedb t k) → UsedIn t k
-usedb-used t k h b = record { below = h; used = λ e. T-not (eqb (num t k KIND) FREE) b (eq→eqb (num t k KIND) FREE e) }
+usedb-used t k h b = is-used t k (record { below = h; used = b })
 
 used-usedb : (t : List ℤ) (k : ℕ) → UsedIn t k → T (usedb t k)
-used-usedb t k u = neq→eqb (num t k KIND) FREE (u .used)
-
--- the tests of numbers, shut, so that a proof never counts up to a number
-le-T : (m n : ℕ) → m ≤ n → T (leb m n)
-le-T m n h = le→leb m n h
+used-usedb t k u = used-is t k u .used
 
 record Across (t : List ℤ) (A : Area) (k : ℕ) : Type 0 where
   left : num t k LEFT < A .right
@@ -196,15 +186,6 @@ rootsb-lists t A =
     (λ j k b. leb→le (num t k TOP) (num t j BOTTOM) b)
 
 -- ---- the tile that holds a cell
-
-abbrev hasb : List ℤ → ℕ → ℕ → ℕ → Bool
-hasb t i x y = leb (num t i LEFT) x && (ltb x (num t i RIGHT) && (leb (num t i BOTTOM) y && ltb y (num t i TOP)))
-
-hasb-has : (t : List ℤ) (i x y : ℕ) → T (hasb t i x y) → Has (tileOf t i) x y
-hasb-has t i x y b = search (and-l, and-r, leb→le) depth 9
-
-has-hasb : (t : List ℤ) (i x y : ℕ) → Has (tileOf t i) x y → T (hasb t i x y)
-has-hasb t i x y h = search (T-and, le-T)
 
 unfoldable pub findsb : List ℤ → ℕ → ℕ → ℕ → Bool
 findsb t x y i = ltb i (recordsOf t) && (usedb t i && hasb t i x y)

@@ -138,7 +138,7 @@ module _ (R : ℕ) (tile : ℕ → Tile) (S : Solids) (a : Apart S) (d : Drawn R
 
 -- ---- the tiles depend on the solids alone
 
-same-tile-of : (S S′ : Solids) → SameSolids S S′ → (v : Tile) → TileOf S v → TileOf S′ v
+pub same-tile-of : (S S′ : Solids) → SameSolids S S′ → (v : Tile) → TileOf S v → TileOf S′ v
 same-tile-of S S′ e v (TileOf.solid k u c) = let (j, o, q) = e .there k u in TileOf.solid j o (c ∙ sym q)
 same-tile-of S S′ e v (TileOf.space k l s) = TileOf.space k l (same-strips S S′ e (v .left) (v .bottom) (v .right) (v .top) s)
 

@@ -1,9 +1,8 @@
 -- A sound table has an order of its solids, and only one, so what save writes is settled by the table. Assumes nothing.
 use mathlib.Core.Path.{_≡_, refl, sym, ap, ap₂, _∙_, subst}
 use mathlib.Core.Bool.{true}
-use mathlib.Core.List.{List, [], _∷_, _++_, map}
-use Prim.Native.Nat.{ℕ, zero, suc, _+_, _*_, _<_}
-use native.Mathlib.Nat.{not-suc-le-zero, le-of-suc-le-suc}
+use mathlib.Core.List.{List, _++_, map}
+use Prim.Native.Nat.{ℕ, _*_, _<_}
 use native.Mathlib.Omega.{arith}
 use lib.Dec.{T, eqb→eq}
 use lib.IntN.{ℤ}
@@ -17,50 +16,11 @@ use Rattle.table.specs.Words.{KIND, recordsOf, num}
 use Rattle.table.specs.Sound.{SizeRight, solidAt, solidsIn}
 use Rattle.table.specs.Forms.{Forms}
 use Rattle.seek.specs.Meaning.{SolidIn, Lists}
+use Rattle.seek.specs.Lists.{lists-one}
 use Rattle.layout.specs.Bytes.{fileBytes}
 use Rattle.layout.specs.Order.{Comes, higher, level, savedOf, Saves}
 use Rattle.layout.specs.Keys.{keysTo, recordOf, sorted-lists}
 use Rattle.layout.specs.Sorting.{sorted, sorted-sorts}
-
--- ---- two lists of the same records in the same order are one, where no two records precede each other
-
-module _ (P : ℕ → ℕ → Type 0) (asym : (j k : ℕ) → P j k → P k j → ⊥) where
-  tail : (Q : ℕ → Type 0) (x : ℕ) (ks : List ℕ) → Lists Q P (x ∷ ks) → Lists (λ k. Q k × (k ≡ x → ⊥)) P ks
-  tail Q x ks l =
-      record {
-        each = λ n h. (
-          l .each (suc n) (omega arith),
-          λ e.
-              let p : P x x = subst (P x) e (l .order 0 (suc n) (omega arith) (omega arith)) in
-              asym x x p p,
-        );
-        all = λ k q. let (n, h, e) = l .all k (q .0) in at n k h e (q .1);
-        order = λ m n h k. l .order (suc m) (suc n) (omega arith) (omega arith);
-      }
-    where
-      at : (n k : ℕ) → n < length (x ∷ ks) → getD (x ∷ ks) n 0 ≡ k → (k ≡ x → ⊥) → (m : ℕ) × (m < length ks) × (getD ks m 0 ≡ k)
-      at zero k h e d = absurd (d (sym e))
-      at (suc n) k h e d = (n, le-of-suc-le-suc h, e)
-
-  head : (Q : ℕ → Type 0) (x y : ℕ) (ks ls : List ℕ) → Lists Q P (x ∷ ks) → Lists Q P (y ∷ ls) → x ≡ y
-  head Q x y ks ls k l =
-      let (n, h, e) = l .all x (k .each 0 (omega arith)) in
-      let (m, g, f) = k .all y (l .each 0 (omega arith)) in
-      at n m h g e f
-    where
-      at : (n m : ℕ) → n < length (y ∷ ls) → m < length (x ∷ ks) → getD (y ∷ ls) n 0 ≡ x → getD (x ∷ ks) m 0 ≡ y → x ≡ y
-      at zero m h g e f = sym e
-      at (suc n) zero h g e f = f
-      at (suc n) (suc m) h g e f =
-          absurd (asym x y (subst (P x) f (k .order 0 (suc m) (omega arith) g)) (subst (P y) e (l .order 0 (suc n) (omega arith) h)))
-
-  pub lists-one : (Q : ℕ → Type 0) (ks ls : List ℕ) → Lists Q P ks → Lists Q P ls → ks ≡ ls
-  lists-one Q [] [] k l = refl
-  lists-one Q [] (y ∷ ls) k l = absurd (not-suc-le-zero (k .all y (l .each 0 (omega arith)) .1))
-  lists-one Q (x ∷ ks) [] k l = absurd (not-suc-le-zero (l .all x (k .each 0 (omega arith)) .1))
-  lists-one Q (x ∷ ks) (y ∷ ls) k l =
-      let e = head Q x y ks ls k l in
-      ap₂ (λ a l. a ∷ l) e (lists-one (λ j. Q j × (j ≡ x → ⊥)) ks ls (tail Q x ks k) (tail Q x ls (subst (λ z. Lists Q P (z ∷ ls)) (sym e) l)))
 
 -- ---- the order of a saved layout
 
@@ -71,7 +31,7 @@ comes-asym t j k (level a b) (higher c) = omega arith
 comes-asym t j k (level a b) (level c d) = omega arith
 
 pub one-order : (t : List ℤ) (ks ls : List ℕ) → Lists (SolidIn t) (Comes t) ks → Lists (SolidIn t) (Comes t) ls → ks ≡ ls
-one-order t ks ls k l = lists-one (Comes t) (comes-asym t) (SolidIn t) ks ls k l
+one-order t = lists-one (SolidIn t) (Comes t) (λ j k u v. comes-asym t j k)
 
 pub some-order : (t : List ℤ) → Forms t → SizeRight t → (ks : List ℕ) × Lists (SolidIn t) (Comes t) ks
 some-order t f z =

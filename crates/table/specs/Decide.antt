@@ -45,7 +45,7 @@ T-cond : (a b c : Bool) → (T a → T b) → (T (not a) → T c) → T (cond a 
 T-cond true b c f g = f tt
 T-cond false b c f g = g tt
 
-or-cases : {C : Type 0} (a b : Bool) → T (a || b) → (T a → C) → (T b → C) → C
+pub or-cases : {C : Type 0} (a b : Bool) → T (a || b) → (T a → C) → (T b → C) → C
 or-cases true b t f g = f tt
 or-cases false b t f g = g t
 
@@ -54,7 +54,7 @@ or-else true b f = tt
 or-else false b f = f tt
 
 -- the tests of numbers, shut, so that a proof never counts up to a number
-le-T : (m n : ℕ) → m ≤ n → T (leb m n)
+pub le-T : (m n : ℕ) → m ≤ n → T (leb m n)
 le-T m n h = le→leb m n h
 
 or-le : {C : Type 0} (m n : ℕ) (b : Bool) → T (leb m n || b) → (m ≤ n → C) → (T b → C) → C
@@ -68,7 +68,7 @@ eq-or m n b f = or-else (eqb m n) b (λ h. f (λ e. T-not (eqb m n) h (eq→eqb 
 
 -- ---- one record
 
-abbrev usedb : List ℤ → ℕ → Bool
+abbrev pub usedb : List ℤ → ℕ → Bool
 usedb t i = not (eqb (num t i KIND) FREE)
 
 abbrev solidb : List ℤ → ℕ → Bool
@@ -126,7 +126,7 @@ kinded-kindedb t i (Kinded.solid k l) =
 abbrev insideb : ℕ → ℕ → Bool
 insideb x y = leb LOW x && (ltb x HIGH && (leb LOW y && ltb y HIGH))
 
-abbrev hasb : List ℤ → ℕ → ℕ → ℕ → Bool
+abbrev pub hasb : List ℤ → ℕ → ℕ → ℕ → Bool
 hasb t i x y = leb (num t i LEFT) x && (ltb x (num t i RIGHT) && (leb (num t i BOTTOM) y && ltb y (num t i TOP)))
 
 unfoldable namedb : List ℤ → ℕ → ℕ → ℕ → Bool
@@ -142,10 +142,10 @@ insideb-in x y b = search (and-l, and-r, leb→le) depth 9
 in-insideb : (x y : ℕ) → InPlane x y → T (insideb x y)
 in-insideb x y p = search (T-and, le-T)
 
-hasb-has : (t : List ℤ) (i x y : ℕ) → T (hasb t i x y) → Has (tileOf t i) x y
+pub hasb-has : (t : List ℤ) (i x y : ℕ) → T (hasb t i x y) → Has (tileOf t i) x y
 hasb-has t i x y b = search (and-l, and-r, leb→le) depth 9
 
-has-hasb : (t : List ℤ) (i x y : ℕ) → Has (tileOf t i) x y → T (hasb t i x y)
+pub has-hasb : (t : List ℤ) (i x y : ℕ) → Has (tileOf t i) x y → T (hasb t i x y)
 has-hasb t i x y h = search (T-and, le-T)
 
 namedb-named : (t : List ℤ) (w x y : ℕ) → T (namedb t w x y) → Named t w x y

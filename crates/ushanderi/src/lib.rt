@@ -3,7 +3,6 @@ pub mod answer;
 pub mod editing;
 mod entry;
 pub mod host;
-pub mod host_writes;
 pub mod layouts;
 pub mod plane;
 pub mod reading;

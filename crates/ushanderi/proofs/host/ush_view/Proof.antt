@@ -4,9 +4,6 @@ use Rattle.table.specs.View.{Places}
 use borrow.Author.Needs.{needs}
 use Rattle.ushanderi.proofs.host.ush_view.Statement.{statement}
 use Rattle.ushanderi.proofs.host.ush_view.Tie as tie
-use Rattle.ushanderi.proofs.host.ush_view.Reads as reads
-use Rattle.ushanderi.proofs.host.ush_view.Lts as lts
-use Rattle.table.proofs.place.Reads as place-reads
 
 -- src/host.rt:27:5
 place-requires : tie.Need-place-requires

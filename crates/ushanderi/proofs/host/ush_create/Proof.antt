@@ -1,11 +1,11 @@
--- `ushanderi::host_writes::ush_create` meets the promise of create. Assumes nothing.
+-- `ushanderi::host::ush_create` meets the promise of create. Assumes nothing.
 use mathlib.Core.Path.{refl}
 use Rattle.ruler.specs.Ruler.{ruler-bits}
 use Rattle.ushanderi.specs.ReadingAreas.{area-bits}
 use Rattle.ushanderi.specs.Editing.{create-same}
 use borrow.Author.Needs.{needs}
-use Rattle.ushanderi.proofs.host_writes.ush_create.Statement.{statement}
-use Rattle.ushanderi.proofs.host_writes.ush_create.Tie as tie
+use Rattle.ushanderi.proofs.host.ush_create.Statement.{statement}
+use Rattle.ushanderi.proofs.host.ush_create.Tie as tie
 
 create-requires : tie.Need-create-requires
 create-requires c κs = search needs

@@ -1,8 +1,8 @@
--- `ushanderi::host_writes::ush_delete` meets the promise of delete. Assumes nothing.
+-- `ushanderi::host::ush_delete` meets the promise of delete. Assumes nothing.
 use Rattle.ushanderi.specs.Editing.{delete-bits}
 use borrow.Author.Needs.{needs}
-use Rattle.ushanderi.proofs.host_writes.ush_delete.Statement.{statement}
-use Rattle.ushanderi.proofs.host_writes.ush_delete.Tie as tie
+use Rattle.ushanderi.proofs.host.ush_delete.Statement.{statement}
+use Rattle.ushanderi.proofs.host.ush_delete.Tie as tie
 
 delete-requires : tie.Need-delete-requires
 delete-requires c κs = search needs

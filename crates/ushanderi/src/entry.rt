@@ -13,7 +13,7 @@ pub enum Entry {
 }
 
 // What keeps the table from being worked on, or how many solids it has.
-pub fn admit(t: &[i32]) -> Entry
+pub(crate) fn admit(t: &[i32]) -> Entry
     ensures { λ r. ⌜ Admits (now (t .entry)) r ⌝ }
 {
     if table::size_right(t) {
@@ -29,7 +29,7 @@ pub fn admit(t: &[i32]) -> Entry
 }
 
 // What the checks 1 and 2 found, by its number and value.
-pub fn entry_answer(e: Entry) -> Answer
+pub(crate) fn entry_answer(e: Entry) -> Answer
     requires { ⌜ FewSolids e ⌝ }
     ensures { λ r. ⌜ r ≡ entryAnswer e ⌝ }
 {

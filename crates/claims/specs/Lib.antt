@@ -1,3 +1,4 @@
+-- What follows from the promises alone: agreement, histories, the drawn examples, the round trip, shams.
 pub mod AgreeChecks
 pub mod AgreeReads
 pub mod AgreePicture

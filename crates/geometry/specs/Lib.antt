@@ -1,3 +1,4 @@
+-- The mathematics of tiles, each file after those that it uses: the reader's page is Picture.
 pub mod Cases
 pub mod Sums
 pub mod Count

@@ -1,3 +1,4 @@
+-- Saved layouts and the lister's text: the reader's pages are Bytes, Order and Text.
 pub mod Patch
 pub mod Bytes
 pub mod BytesLaws

@@ -1,1 +1,2 @@
+-- What the lister prints.
 pub mod Listing

@@ -1,3 +1,4 @@
+-- What looking things up means, and laws of the walks that do it: the reader's pages are Meaning, Neighbours and Find.
 pub mod Find
 pub mod Start
 pub mod Neighbours

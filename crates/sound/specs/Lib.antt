@@ -1,3 +1,4 @@
+-- Why the passes of the soundness check tell exactly whether a table is sound.
 pub mod Records
 pub mod Tally
 pub mod Links

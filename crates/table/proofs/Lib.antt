@@ -1,1 +1,2 @@
+-- What the proofs of the table's functions share.
 mod Laws

@@ -1,3 +1,4 @@
+-- What the lent words mean, and laws of reading and writing them: the reader's pages are Sound, Fresh and View.
 pub mod Words
 pub mod Sound
 pub mod Fresh

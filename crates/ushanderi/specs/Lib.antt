@@ -1,3 +1,4 @@
+-- What each call answers, and why: the reader's pages are Answers and Promises.
 pub mod Answers
 pub mod Promises
 pub mod Entry

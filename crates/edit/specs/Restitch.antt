@@ -7,7 +7,7 @@ use Prim.Native.Nat.{ℕ, _+_, _-_, _≤_, _<_}
 use native.Mathlib.Omega.{arith}
 use lib.IntN.{ℤ}
 use lib.Dec.{T, eqb}
-use Rattle.geometry.specs.Picture.{ZERO, FREE}
+use Rattle.geometry.specs.Picture.{FREE}
 use Rattle.geometry.specs.Cases.{eq-cases}
 use Rattle.geometry.specs.Plane.{Plane, Is}
 use Rattle.geometry.specs.Stitches.{Stitches, Good}

@@ -5,7 +5,6 @@ ghost use mathlib.Core.Path.{_≡_};
 ghost use mathlib.Core.List.{[], _∷_, _++_};
 ghost use Prim.Native.Nat.{_+_, _≤_, _<_, _^_};
 ghost use lib.ListN.{length};
-ghost use Rattle.geometry.specs.Picture.{Tile};
 ghost use Rattle.layout.specs.Patch.{Puts};
 ghost use Rattle.layout.specs.Text.{decimal, glyph, signedText, spaced, kindText, lineOf, refusedLine};
 

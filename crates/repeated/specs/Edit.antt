@@ -1,11 +1,11 @@
 -- A create and the delete of what it created: what both ask for, and that this holds again after them. Assumes nothing.
-use mathlib.Core.Path.{_≡_, sym, ap, _∙_}
+use mathlib.Core.Path.{_≡_, ap, _∙_}
 use mathlib.Core.List.{List}
 use Prim.Native.Nat.{ℕ, _≤_, _<_, _/_, _^_}
 use native.Mathlib.Omega.{arith}
 use lib.IntN.{ℤ}
 use lib.ListN.{length}
-use lib.Dec.{T, eqb→eq}
+use lib.Dec.{eqb→eq}
 use Rattle.geometry.specs.Count.{count, count-mono}
 use Rattle.geometry.specs.Picture.{ZERO, SOLID}
 use Rattle.geometry.specs.Tiling.{eq→eqb}

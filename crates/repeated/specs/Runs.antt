@@ -1,5 +1,5 @@
 -- What a run says, and a run after others: what is listed or saved twice is what is listed or saved once. Assumes nothing.
-use mathlib.Core.Path.{_≡_, refl, sym, ap, ap₂, _∙_, subst}
+use mathlib.Core.Path.{_≡_, refl, ap, _∙_, subst}
 use mathlib.Core.List.{List, [], _∷_, _++_, map}
 use Prim.Native.Nat.{ℕ, _≤_, _<_}
 use native.Mathlib.Omega.{arith}
@@ -10,8 +10,8 @@ use Rattle.geometry.specs.Turns.{Side}
 use Rattle.table.specs.Words.{recordsOf}
 use Rattle.table.specs.Sound.{UsedIn}
 use Rattle.table.specs.Forms.{Forms}
-use Rattle.seek.specs.Find.{Finds, finds-one}
-use Rattle.seek.specs.Meaning.{Area, FreeArea, First, Directed}
+use Rattle.seek.specs.Find.{finds-one}
+use Rattle.seek.specs.Meaning.{Area, FreeArea, First}
 use Rattle.seek.specs.Search.{Searches, nothing, solid}
 use Rattle.seek.specs.declared.area.Seen.{Seen}
 use Rattle.seek.specs.declared.area.Seen.the-variants.{Nothing, Solid}
@@ -19,8 +19,8 @@ use Rattle.seek.specs.Neighbours.{sideOf}
 use Rattle.seek.specs.Sides.{neighbours-one}
 use Rattle.seek.specs.Listing.{Written, Lists, Counts, counts-one}
 use Rattle.seek.specs.Order.{directed-one}
-use Rattle.seek.specs.Writing.{over, words, Writes, over-length}
-use Rattle.seek.specs.Enumerate.{WritesArea, CountsArea, counts-area-one}
+use Rattle.seek.specs.Writing.{over, words, over-length}
+use Rattle.seek.specs.Enumerate.{WritesArea, counts-area-one}
 use Rattle.layout.specs.Bytes.{fileBytes}
 use Rattle.layout.specs.BytesLaws.{file-length}
 use Rattle.layout.specs.Order.{savedOf, Saves}

@@ -2,12 +2,12 @@
 use mathlib.Core.Path.{_≡_}
 use mathlib.Core.Logic.{_≢_}
 use mathlib.Core.List.{List}
-use Prim.Native.Nat.{ℕ, _*_, _≤_, _<_, _^_}
+use Prim.Native.Nat.{ℕ, _*_, _≤_, _<_}
 use lib.IntN.{ℤ}
 use lib.ListN.{length}
-use Rattle.geometry.specs.Picture.{ZERO, InPlane}
+use Rattle.geometry.specs.Picture.{InPlane}
 use Rattle.table.specs.Words.{recordsOf}
-use Rattle.table.specs.Sound.{capacity, solidsIn}
+use Rattle.table.specs.Sound.{solidsIn}
 use Rattle.seek.specs.Find.{Finds}
 use Rattle.seek.specs.Meaning.{Area, RectRight, FreeArea, First}
 use Rattle.seek.specs.Neighbours.{sideOf}

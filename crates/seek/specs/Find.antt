@@ -1,15 +1,13 @@
 -- What the search for a cell gives, and its steps over the words of a table. Assumes nothing.
-use mathlib.Core.Path.{_≡_, sym, subst}
+use mathlib.Core.Path.{_≡_}
 use mathlib.Core.List.{List}
 use Prim.Native.Nat.{ℕ, _≤_, _<_}
 use native.Mathlib.Omega.{arith}
 use lib.IntN.{ℤ}
-use lib.Dec.{T, T-not, eqb, eqb→eq, eqb-refl}
-use Rattle.geometry.specs.Cases.{T-cases}
-use Rattle.geometry.specs.Picture.{LOW, HIGH, FREE, Has}
+use Rattle.geometry.specs.Picture.{LOW, HIGH, Has}
 use Rattle.geometry.specs.Plane.{Is}
 use Rattle.geometry.specs.Find.{Higher, Lower, AtLeft, AtRight, InRow, Crossed, climb, sink, left-first, left-next, right-first, right-next}
-use Rattle.table.specs.Words.{num, tileOf, LEFT, BOTTOM, RIGHT, TOP, TR, RT, BL, LB, KIND}
+use Rattle.table.specs.Words.{num, tileOf, LEFT, BOTTOM, RIGHT, TOP, TR, RT, BL, LB}
 use Rattle.table.specs.Sound.{UsedIn}
 use Rattle.table.specs.Forms.{planeIn, stitchesIn, link, Forms, used-is}
 

@@ -1,7 +1,6 @@
 -- What the calls that read a plane mean, as 01 says it: what a reader must believe about area search, neighbours and the directed order.
 -- All numbers are on the ruler, and nothing here speaks of a way to find the answer. Assumes nothing.
 use mathlib.Core.Path.{_≡_}
-use mathlib.Core.Logic.{_⊎_}
 use mathlib.Core.List.{List, [], _∷_, _++_}
 use Prim.Native.Nat.{ℕ, _-_, _≤_, _<_, max}
 use lib.IntN.{ℤ}

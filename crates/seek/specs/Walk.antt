@@ -7,7 +7,7 @@ use Prim.Native.Nat.{ℕ, zero, suc, _+_, _-_, _*_, _≤_, _<_}
 use native.Mathlib.Omega.{arith}
 use lib.IntN.{ℤ}
 use lib.ListN.{length, getD}
-use Rattle.geometry.specs.Picture.{ZERO, LOW, HIGH}
+use Rattle.geometry.specs.Picture.{LOW, HIGH}
 use Rattle.geometry.specs.Plane.{Plane, hi}
 use Rattle.geometry.specs.Stitches.{Stitches}
 use Rattle.geometry.specs.Turns.{Side, top, right, bottom, left, seen, seen-stitches}
@@ -16,7 +16,7 @@ use Rattle.table.specs.Words.{WIDTH, recordsOf, num, LEFT, BOTTOM, RIGHT, TOP, 
 use Rattle.table.specs.Sound.{SizeRight, UsedIn}
 use Rattle.table.specs.Forms.{planeIn, stitchesIn, link, Forms}
 use Rattle.seek.specs.Neighbours.{sideOf, Neighbours}
-use Rattle.seek.specs.Sides.{good, sees-is, neighbours-listed, neighbours-some}
+use Rattle.seek.specs.Sides.{good, sees-is, neighbours-listed}
 use Rattle.seek.specs.declared.side.SideWords.{SideWords}
 use Rattle.seek.specs.declared.side.Walk.{Walk}
 

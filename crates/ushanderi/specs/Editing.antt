@@ -1,13 +1,11 @@
 -- The calls that change a plane: what a create's answer says in 01's numbers, and how the edits of a sound table give the promises. Assumes nothing.
 use mathlib.Core.Path.{_≡_, refl, sym, ap, _∙_, subst, subst₂}
 use mathlib.Core.Logic.{_≢_}
-use mathlib.Core.Bool.{Bool, true, false}
 use mathlib.Core.List.{List}
 use Prim.Native.Nat.{ℕ, _+_, _-_, _≤_, _<_, _^_}
 use native.Mathlib.Omega.{arith}
 use lib.IntN.{ℤ, pos, negsuc}
 use lib.ListN.{length}
-use lib.Dec.{T, eqb, eqb→eq}
 use borrow.Author.Tests.{eq-eqb, ne-eqb}
 use mir.Syntax.{w32}
 use mir.Val.{SFits, toZ, ofZ}
@@ -28,11 +26,9 @@ use Rattle.seek.specs.Search.{Searches}
 use Rattle.seek.specs.declared.area.Seen.{Seen}
 use Rattle.seek.specs.declared.area.Seen.the-variants as Seens
 use Rattle.edit.specs.Tidy.{SameTile}
-use Rattle.edit.specs.Create
-use Rattle.edit.specs.Create.{Clear, CanLay, Creates, creates-new}
+use Rattle.edit.specs.Create.{CanLay, Creates, creates-new}
 use Rattle.edit.specs.Delete.{Deletes, CanShrink, shrink-room}
 use Rattle.ushanderi.specs.Answers.{SIZE, UNSOUND, RECT, LABEL, OCCUPIED, FULL, SPACE, answered, accepted, refused}
-use Rattle.ushanderi.specs.Promises
 use Rattle.ushanderi.specs.Promises.{Unfit, Fit, drawn, Adds, Removes, Edited, FindSays, CreateSays, NoRoom, DeleteSays}
 use Rattle.ushanderi.specs.Reading.{foundAnswer, fit-forms, low-record, NotFound, found-at}
 use Rattle.ushanderi.specs.declared.answer.Answer.{Answer}

@@ -9,10 +9,9 @@ use Rattle.geometry.specs.Picture
 use Rattle.geometry.specs.Picture.{ZERO, FREE, SOLID, InPlane, Tile}
 use Rattle.table.specs.Words.{KIND, recordsOf, num, tileOf}
 use Rattle.table.specs.Words
-use Rattle.table.specs.Sound.{SizeRight, Sound, UsedIn, capacity, solidsIn}
+use Rattle.table.specs.Sound.{SizeRight, Sound, capacity, solidsIn}
 use Rattle.table.specs.Fresh.{freshTable}
 use Rattle.table.specs.View.{Places, partOf}
-use Rattle.ruler.specs.Ruler.{ruler}
 use Rattle.seek.specs.Meaning.{SolidIn, Area, RectRight, FreeArea, First, Lists, Directed}
 use Rattle.seek.specs.Find.{Finds}
 use Rattle.seek.specs.Neighbours.{sideOf, Neighbours}

@@ -15,7 +15,7 @@ use Rattle.seek.specs.Meaning.{Area}
 use Rattle.seek.specs.Find.{Finds}
 use Rattle.ushanderi.specs.Answers.{SIZE, UNSOUND, POINT, accepted, refused}
 use Rattle.ushanderi.specs.Promises.{Unfit, Fit, FindSays}
-use Rattle.ushanderi.specs.Entry.{Admits, size, unsound, fit, entryAnswer, admits-fit, few-solids}
+use Rattle.ushanderi.specs.Entry.{Admits, size, unsound, fit, entryAnswer}
 use Rattle.ushanderi.specs.declared.answer.Answer.{Answer}
 use Rattle.ushanderi.specs.declared.entry.Entry.{Entry}
 use Rattle.ushanderi.specs.declared.entry.Entry.the-variants as Entries

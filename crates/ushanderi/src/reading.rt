@@ -6,7 +6,6 @@ ghost use Rattle.table.specs.Sound.{UsedIn};
 ghost use Rattle.ruler.specs.Ruler.{ruler};
 ghost use Rattle.seek.specs.Meaning.{RectRight};
 ghost use Rattle.seek.specs.Enumerate.{areaOf};
-ghost use Rattle.ushanderi.specs.Entry.{entryAnswer};
 ghost use Rattle.ushanderi.specs.Promises.{Fit, FindSays, NeighboursSays, SearchSays, EnumerateSays};
 ghost use Rattle.ushanderi.specs.Reading.{foundAnswer, LowRecord, rulerArea};
 ghost use Rattle.ushanderi.specs.ReadingSides.{SideNumber, SideSays};

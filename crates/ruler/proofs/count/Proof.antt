@@ -3,8 +3,6 @@ use mir.Facts.{toZ-pos}
 use borrow.Author.Needs.{needs}
 use Rattle.ruler.proofs.count.Statement.{statement}
 use Rattle.ruler.proofs.count.Tie as tie
-use Rattle.ruler.proofs.count.Reads as reads
-use Rattle.ruler.proofs.count.Lts as lts
 
 -- src/lib.rt:40:5
 cast-result : tie.Need-cast-result

@@ -9,8 +9,6 @@ use lib.Seq.{drop-length}
 use Rattle.table.proofs.Laws.{fill-more}
 use Rattle.table.proofs.clear.Statement.{statement}
 use Rattle.table.proofs.clear.Tie as tie
-use Rattle.table.proofs.clear.Reads as reads
-use Rattle.table.proofs.clear.Lts as lts
 
 abbrev Inv-loop : tie.InvT-loop
 Inv-loop t₀ i₀ t i = (i ≤ length t₀) × (length t ≡ length t₀) × (t ≡ replicate i (pos 0) ++ drop i t₀)

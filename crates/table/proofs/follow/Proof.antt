@@ -6,9 +6,6 @@ use Rattle.table.specs.Words.{num}
 use Rattle.table.specs.Forms.{link-bits}
 use Rattle.table.proofs.follow.Statement.{statement}
 use Rattle.table.proofs.follow.Tie as tie
-use Rattle.table.proofs.follow.Reads as reads
-use Rattle.table.proofs.follow.Lts as lts
-use Rattle.ruler.proofs.bits.Reads as bits-reads
 
 mul-bits : tie.Need-mul-bits
 mul-bits c = search needs

@@ -8,10 +8,6 @@ use Rattle.table.proofs.Laws.{drop-replicate}
 use borrow.Author.Needs.{needs}
 use Rattle.table.proofs.fresh.Statement.{statement}
 use Rattle.table.proofs.fresh.Tie as tie
-use Rattle.table.proofs.fresh.Reads as reads
-use Rattle.table.proofs.fresh.Lts as lts
-use Rattle.table.proofs.clear.Reads as clear-reads
-use Rattle.table.proofs.whole_plane.Reads as whole-plane-reads
 
 -- src/lib.rt:116:5
 clear-requires : tie.Need-clear-requires

@@ -9,11 +9,6 @@ use Rattle.table.specs.View.{nowhere, there, numbers-is}
 use borrow.Author.Needs.{needs}
 use Rattle.table.proofs.place.Statement.{statement}
 use Rattle.table.proofs.place.Tie as tie
-use Rattle.table.proofs.place.Reads as reads
-use Rattle.table.proofs.place.Lts as lts
-use Rattle.ruler.proofs.at.Reads as at-reads
-use Rattle.table.proofs.records.Reads as records-reads
-use Rattle.table.proofs.size_right.Reads as size-right-reads
 
 -- src/lib.rt:141:8
 size-right-requires : tie.Need-size-right-requires

@@ -3,9 +3,6 @@ use mir.Facts.{toZ-ofZ}
 use Rattle.table.specs.Reading.{write}
 use Rattle.table.proofs.set_word.Statement.{statement}
 use Rattle.table.proofs.set_word.Tie as tie
-use Rattle.table.proofs.set_word.Reads as reads
-use Rattle.table.proofs.set_word.Lts as lts
-use Rattle.ruler.proofs.word_at.Reads as word-at-reads
 
 -- src/lib.rt:50:21
 word-at-requires : tie.Need-word-at-requires

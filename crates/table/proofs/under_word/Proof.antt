@@ -11,9 +11,6 @@ use Rattle.table.specs.Words.{num}
 use borrow.Author.Needs.{needs, sfits-of}
 use Rattle.table.proofs.under_word.Statement.{statement}
 use Rattle.table.proofs.under_word.Tie as tie
-use Rattle.table.proofs.under_word.Reads as reads
-use Rattle.table.proofs.under_word.Lts as lts
-use Rattle.ruler.proofs.word_at.Reads as word-at-reads
 
 -- src/lib.rt:96:9
 word-at-requires : tie.Need-word-at-requires

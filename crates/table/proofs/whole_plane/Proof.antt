@@ -5,8 +5,6 @@ use Rattle.table.specs.Fresh.{wholePlane}
 use borrow.Author.Needs.{needs}
 use Rattle.table.proofs.whole_plane.Statement.{statement}
 use Rattle.table.proofs.whole_plane.Tie as tie
-use Rattle.table.proofs.whole_plane.Reads as reads
-use Rattle.table.proofs.whole_plane.Lts as lts
 
 -- src/lib.rt:99:5
 slice-set-of-t : tie.Need-slice-set-of-t

@@ -5,9 +5,6 @@ use Rattle.ruler.specs.Ruler.{ruler}
 use Rattle.table.specs.Words.{num}
 use Rattle.table.proofs.word.Statement.{statement}
 use Rattle.table.proofs.word.Tie as tie
-use Rattle.table.proofs.word.Reads as reads
-use Rattle.table.proofs.word.Lts as lts
-use Rattle.ruler.proofs.at.Reads as at-reads
 
 -- src/lib.rt:25:17
 mul-at : tie.Need-mul-at

@@ -1,5 +1,4 @@
 -- `edits::edit_from` meets its contract. Assumes nothing.
-use native.Mathlib.Omega.{arith}
 use borrow.Author.Needs.{needs}
 use Rattle.repeated.specs.Edit.{can-lay, can-shrink, edited-once}
 use Rattle.repeated.proofs.edits.edit_from.Statement.{statement}

@@ -1,5 +1,4 @@
 -- `edits::rep_edit` meets its contract. Assumes nothing.
-use native.Mathlib.Omega.{arith}
 use borrow.Author.Needs.{needs}
 use mathlib.Core.Path.{refl}
 use Rattle.repeated.specs.Says.{EditSays}

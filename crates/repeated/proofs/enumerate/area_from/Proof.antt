@@ -2,7 +2,6 @@
 use native.Mathlib.Omega.{arith}
 use borrow.Author.Needs.{needs}
 use mathlib.Core.Path.{refl}
-use Rattle.repeated.specs.Says.{AreaListed}
 use Rattle.seek.specs.Writing.{writes-count}
 use Rattle.seek.specs.Enumerate.{counts-area-one}
 use Rattle.repeated.proofs.enumerate.area_from.Statement.{statement}

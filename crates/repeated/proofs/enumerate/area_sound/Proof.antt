@@ -1,5 +1,4 @@
 -- `enumerate::area_sound` meets its contract. Assumes nothing.
-use native.Mathlib.Omega.{arith}
 use borrow.Author.Needs.{needs}
 use mathlib.Core.Path.{refl}
 use Rattle.repeated.specs.Says.{EnumerateSays}

@@ -1,5 +1,4 @@
 -- `enumerate::rep_enumerate` meets its contract. Assumes nothing.
-use native.Mathlib.Omega.{arith}
 use borrow.Author.Needs.{needs}
 use mathlib.Core.Path.{refl}
 use Rattle.geometry.specs.Cases.{yes, no}

@@ -1,5 +1,4 @@
 -- `find::rep_find` meets its contract. Assumes nothing.
-use native.Mathlib.Omega.{arith}
 use borrow.Author.Needs.{needs}
 use mathlib.Core.Path.{refl}
 use Rattle.geometry.specs.Cases.{yes, no}

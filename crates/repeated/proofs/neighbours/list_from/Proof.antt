@@ -2,7 +2,6 @@
 use native.Mathlib.Omega.{arith}
 use borrow.Author.Needs.{needs}
 use mathlib.Core.Path.{refl}
-use Rattle.repeated.specs.Says.{SideListed}
 use Rattle.seek.specs.Listing.{counts-fits}
 use Rattle.repeated.proofs.neighbours.list_from.Statement.{statement}
 use Rattle.repeated.proofs.neighbours.list_from.Tie as tie

@@ -1,7 +1,7 @@
 -- `neighbours::list_often` meets its contract. The invariant: what is listed by the first run and then by the others is listed. Assumes nothing.
 use native.Mathlib.Omega.{arith}
 use borrow.Author.Needs.{needs}
-use mathlib.Core.Path.{_≡_, refl, _∙_}
+use mathlib.Core.Path.{_≡_, refl}
 use mathlib.Core.List.{List}
 use Prim.Native.Nat.{_-_}
 use lib.IntN.{ℤ}

@@ -1,5 +1,4 @@
 -- `search::search_from` meets its contract. Assumes nothing.
-use native.Mathlib.Omega.{arith}
 use borrow.Author.Needs.{needs}
 use Rattle.repeated.specs.Says.{Sees}
 use Rattle.repeated.specs.Runs.{seen-nothing, seen-solid}

@@ -4,10 +4,6 @@ use borrow.Author.Needs.{needs}
 use Rattle.seek.specs.Search.{clear, stopped, solid-first, solid-beside, spans}
 use Rattle.seek.proofs.area.in_row.Statement.{statement}
 use Rattle.seek.proofs.area.in_row.Tie as tie
-use Rattle.seek.proofs.area.in_row.Reads as reads
-use Rattle.seek.proofs.area.in_row.Lts as lts
-use Rattle.seek.proofs.cell.find.Reads as find-reads
-use Rattle.table.proofs.word.Reads as word-reads
 
 find-requires : tie.Need-find-requires
 find-requires c κs = search needs

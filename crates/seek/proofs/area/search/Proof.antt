@@ -1,14 +1,9 @@
 -- `seek::area::search` meets its contract. From the row y up the area is free. Assumes nothing.
-use Prim.Native.Nat.{_-_}
 use native.Mathlib.Omega.{arith}
 use borrow.Author.Needs.{needs}
 use Rattle.seek.specs.Search.{nothing, solid, FreeFrom, free-start, free-on, free-ends, first-of-area, row-clear, row-stopped}
 use Rattle.seek.proofs.area.search.Statement.{statement}
 use Rattle.seek.proofs.area.search.Tie as tie
-use Rattle.seek.proofs.area.search.Reads as reads
-use Rattle.seek.proofs.area.search.Lts as lts
-use Rattle.seek.proofs.area.in_row.Reads as in-row-reads
-use Rattle.table.proofs.word.Reads as word-reads
 
 abbrev Inv-loop : tie.InvT-loop
 Inv-loop t from left bottom right top k₀ y₀ k y = FreeFrom t (record { left = left; bottom = bottom; right = right; top = top }) y k

@@ -8,10 +8,6 @@ use Rattle.table.specs.Forms.{planeIn, stitchesIn}
 use Rattle.seek.specs.Find.{starts-left, goes-up}
 use Rattle.seek.proofs.cell.cross_left.Statement.{statement}
 use Rattle.seek.proofs.cell.cross_left.Tie as tie
-use Rattle.seek.proofs.cell.cross_left.Reads as reads
-use Rattle.seek.proofs.cell.cross_left.Lts as lts
-use Rattle.table.proofs.follow.Reads as follow-reads
-use Rattle.table.proofs.word.Reads as word-reads
 
 abbrev Inv-loop : tie.InvT-loop
 Inv-loop t a y k₀ k = AtLeft (planeIn t) a k y

@@ -7,10 +7,6 @@ use Rattle.table.specs.Forms.{planeIn, stitchesIn}
 use Rattle.seek.specs.Find.{starts-right, goes-down}
 use Rattle.seek.proofs.cell.cross_right.Statement.{statement}
 use Rattle.seek.proofs.cell.cross_right.Tie as tie
-use Rattle.seek.proofs.cell.cross_right.Reads as reads
-use Rattle.seek.proofs.cell.cross_right.Lts as lts
-use Rattle.table.proofs.follow.Reads as follow-reads
-use Rattle.table.proofs.word.Reads as word-reads
 
 abbrev Inv-loop : tie.InvT-loop
 Inv-loop t a y k₀ k = AtRight (planeIn t) a k y

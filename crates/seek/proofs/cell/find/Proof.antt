@@ -3,12 +3,6 @@ use borrow.Author.Needs.{needs}
 use Rattle.table.specs.Forms.{used-is}
 use Rattle.seek.proofs.cell.find.Statement.{statement}
 use Rattle.seek.proofs.cell.find.Tie as tie
-use Rattle.seek.proofs.cell.find.Reads as reads
-use Rattle.seek.proofs.cell.find.Lts as lts
-use Rattle.seek.proofs.cell.to_column_left.Reads as to-column-left-reads
-use Rattle.seek.proofs.cell.to_column_right.Reads as to-column-right-reads
-use Rattle.seek.proofs.cell.to_row_down.Reads as to-row-down-reads
-use Rattle.seek.proofs.cell.to_row_up.Reads as to-row-up-reads
 
 to-row-up-requires : tie.Need-to-row-up-requires
 to-row-up-requires c κs = search (needs, used-is)

@@ -5,10 +5,6 @@ use Rattle.table.specs.Words.{num, LEFT}
 use Rattle.seek.specs.Find.{Row}
 use Rattle.seek.proofs.cell.to_column_left.Statement.{statement}
 use Rattle.seek.proofs.cell.to_column_left.Tie as tie
-use Rattle.seek.proofs.cell.to_column_left.Reads as reads
-use Rattle.seek.proofs.cell.to_column_left.Lts as lts
-use Rattle.seek.proofs.cell.cross_left.Reads as cross-left-reads
-use Rattle.table.proofs.word.Reads as word-reads
 
 abbrev Inv-loop : tie.InvT-loop
 Inv-loop t from x y k₀ k = Row t k y

@@ -8,10 +8,6 @@ use Rattle.table.specs.Forms.{is-used}
 use Rattle.seek.specs.Find.{From}
 use Rattle.seek.proofs.cell.to_column_right.Statement.{statement}
 use Rattle.seek.proofs.cell.to_column_right.Tie as tie
-use Rattle.seek.proofs.cell.to_column_right.Reads as reads
-use Rattle.seek.proofs.cell.to_column_right.Lts as lts
-use Rattle.seek.proofs.cell.cross_right.Reads as cross-right-reads
-use Rattle.table.proofs.word.Reads as word-reads
 
 abbrev Inv-loop : tie.InvT-loop
 Inv-loop t from x y k₀ k = From t k x y

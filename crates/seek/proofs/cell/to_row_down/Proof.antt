@@ -5,10 +5,6 @@ use Rattle.table.specs.Words.{num, BOTTOM}
 use Rattle.seek.specs.Find.{Under, sinks}
 use Rattle.seek.proofs.cell.to_row_down.Statement.{statement}
 use Rattle.seek.proofs.cell.to_row_down.Tie as tie
-use Rattle.seek.proofs.cell.to_row_down.Reads as reads
-use Rattle.seek.proofs.cell.to_row_down.Lts as lts
-use Rattle.table.proofs.follow.Reads as follow-reads
-use Rattle.table.proofs.word.Reads as word-reads
 
 abbrev Inv-loop : tie.InvT-loop
 Inv-loop t from y k₀ k = Under t k y

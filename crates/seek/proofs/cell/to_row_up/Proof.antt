@@ -7,10 +7,6 @@ use Rattle.table.specs.Words.{num, TOP}
 use Rattle.seek.specs.Find.{IsIn, climbs}
 use Rattle.seek.proofs.cell.to_row_up.Statement.{statement}
 use Rattle.seek.proofs.cell.to_row_up.Tie as tie
-use Rattle.seek.proofs.cell.to_row_up.Reads as reads
-use Rattle.seek.proofs.cell.to_row_up.Lts as lts
-use Rattle.table.proofs.follow.Reads as follow-reads
-use Rattle.table.proofs.word.Reads as word-reads
 
 abbrev Inv-loop : tie.InvT-loop
 Inv-loop t from y k₀ k = IsIn t k

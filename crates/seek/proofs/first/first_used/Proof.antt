@@ -6,9 +6,6 @@ use Rattle.table.specs.Words.{recordsOf}
 use Rattle.seek.specs.Start.{NonePassed, not-past, pass-free}
 use Rattle.seek.proofs.first.first_used.Statement.{statement}
 use Rattle.seek.proofs.first.first_used.Tie as tie
-use Rattle.seek.proofs.first.first_used.Reads as reads
-use Rattle.seek.proofs.first.first_used.Lts as lts
-use Rattle.table.proofs.word.Reads as word-reads
 
 abbrev Inv-loop : tie.InvT-loop
 Inv-loop t i₀ i = (i < recordsOf t) × NonePassed t i

@@ -5,10 +5,6 @@ use borrow.Author.Needs.{needs}
 use Rattle.seek.specs.Start.{starts-hinted}
 use Rattle.seek.proofs.first.start.Statement.{statement}
 use Rattle.seek.proofs.first.start.Tie as tie
-use Rattle.seek.proofs.first.start.Reads as reads
-use Rattle.seek.proofs.first.start.Lts as lts
-use Rattle.seek.proofs.first.first_used.Reads as first-used-reads
-use Rattle.table.proofs.word.Reads as word-reads
 
 first-used-requires : tie.Need-first-used-requires
 first-used-requires c κs = search needs

@@ -7,10 +7,6 @@ use Rattle.seek.specs.Neighbours.{sideOf}
 use Rattle.seek.specs.Listing.{Counting, counting-starts, counting-goes, counting-short, counting-on, counting-ends}
 use Rattle.seek.proofs.neighbours.count_side.Statement.{statement}
 use Rattle.seek.proofs.neighbours.count_side.Tie as tie
-use Rattle.seek.proofs.neighbours.count_side.Reads as reads
-use Rattle.seek.proofs.neighbours.count_side.Lts as lts
-use Rattle.seek.proofs.side.Walk.step.Reads as step-reads
-use Rattle.seek.proofs.side.along.Reads as along-reads
 
 abbrev Inv-loop : tie.InvT-loop
 Inv-loop t i side w₀ n₀ w n = Counting t (sideOf side) i n w

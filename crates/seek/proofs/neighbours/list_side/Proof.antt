@@ -9,11 +9,6 @@ use Rattle.seek.specs.Neighbours.{sideOf}
 use Rattle.seek.specs.Listing.{Listing, listing-starts, counting-goes, counting-short, counting-below, listing-room, listing-on, listing-ends}
 use Rattle.seek.proofs.neighbours.list_side.Statement.{statement}
 use Rattle.seek.proofs.neighbours.list_side.Tie as tie
-use Rattle.seek.proofs.neighbours.list_side.Reads as reads
-use Rattle.seek.proofs.neighbours.list_side.Lts as lts
-use Rattle.ruler.proofs.count.Reads as count-reads
-use Rattle.seek.proofs.side.Walk.step.Reads as step-reads
-use Rattle.seek.proofs.side.along.Reads as along-reads
 
 abbrev Inv-loop : tie.InvT-loop
 Inv-loop t i side out₀ w₀ n₀ out w n = Listing t (sideOf side) i n w out₀ out

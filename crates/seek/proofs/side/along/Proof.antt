@@ -5,11 +5,6 @@ use Rattle.seek.specs.Neighbours.{sideOf}
 use Rattle.seek.specs.Walk.{below-of, begins-none, begins-some}
 use Rattle.seek.proofs.side.along.Statement.{statement}
 use Rattle.seek.proofs.side.along.Tie as tie
-use Rattle.seek.proofs.side.along.Reads as reads
-use Rattle.seek.proofs.side.along.Lts as lts
-use Rattle.table.proofs.follow.Reads as follow-reads
-use Rattle.seek.proofs.side.seen.Reads as seen-reads
-use Rattle.seek.proofs.side.words_of.Reads as words-of-reads
 
 words-of-requires : tie.Need-words-of-requires
 words-of-requires c κs = search needs

@@ -3,9 +3,6 @@ use native.Mathlib.Omega.{arith}
 use borrow.Author.Needs.{needs}
 use Rattle.seek.proofs.side.seen.Statement.{statement}
 use Rattle.seek.proofs.side.seen.Tie as tie
-use Rattle.seek.proofs.side.seen.Reads as reads
-use Rattle.seek.proofs.side.seen.Lts as lts
-use Rattle.table.proofs.word.Reads as word-reads
 
 word-requires : tie.Need-word-requires
 word-requires c κs = search needs

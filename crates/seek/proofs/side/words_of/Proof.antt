@@ -4,8 +4,6 @@ use Rattle.seek.specs.Neighbours.{sideOf}
 use Rattle.seek.specs.Walk.{wordsOf, last-side}
 use Rattle.seek.proofs.side.words_of.Statement.{statement}
 use Rattle.seek.proofs.side.words_of.Tie as tie
-use Rattle.seek.proofs.side.words_of.Reads as reads
-use Rattle.seek.proofs.side.words_of.Lts as lts
 
 returns : tie.Need-returns
 unfolding sideOf

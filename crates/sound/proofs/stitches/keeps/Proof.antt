@@ -4,9 +4,6 @@ use Rattle.sound.specs.Tally.{has-keeps}
 use borrow.Author.Needs.{needs}
 use Rattle.sound.proofs.stitches.keeps.Statement.{statement}
 use Rattle.sound.proofs.stitches.keeps.Tie as tie
-use Rattle.sound.proofs.stitches.keeps.Reads as reads
-use Rattle.sound.proofs.stitches.keeps.Lts as lts
-use Rattle.table.proofs.under_word.Reads as under-word-reads
 
 -- src/stitches.rt:26:8
 under-word-requires : tie.Need-under-word-requires

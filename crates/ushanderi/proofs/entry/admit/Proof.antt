@@ -7,10 +7,6 @@ use Rattle.ushanderi.specs.declared.entry.Entry.the-variants.{Sound}
 use borrow.Author.Needs.{needs}
 use Rattle.ushanderi.proofs.entry.admit.Statement.{statement}
 use Rattle.ushanderi.proofs.entry.admit.Tie as tie
-use Rattle.ushanderi.proofs.entry.admit.Reads as reads
-use Rattle.ushanderi.proofs.entry.admit.Lts as lts
-use Rattle.sound.proofs.check.Reads as check-reads
-use Rattle.table.proofs.size_right.Reads as size-right-reads
 
 -- src/entry.rt:14:8
 size-right-requires : tie.Need-size-right-requires

@@ -1,6 +1,5 @@
 -- `ushanderi::layouts::refused_at` meets its contract: both numbers are read back from their bits. Assumes nothing.
 use mathlib.Core.Path.{ap, _∙_}
-use lib.IntN.{pos}
 use mir.Syntax.{w32}
 use mir.Val.{toZ, ofZ}
 use Rattle.ruler.specs.Ruler.{count-bits}

@@ -5,10 +5,6 @@ use Rattle.ushanderi.specs.Promises.{FreshSays}
 use borrow.Author.Needs.{needs}
 use Rattle.ushanderi.proofs.plane.fresh.Statement.{statement}
 use Rattle.ushanderi.proofs.plane.fresh.Tie as tie
-use Rattle.ushanderi.proofs.plane.fresh.Reads as reads
-use Rattle.ushanderi.proofs.plane.fresh.Lts as lts
-use Rattle.table.proofs.fresh.Reads as fresh-reads
-use Rattle.table.proofs.size_right.Reads as size-right-reads
 
 -- src/calls.rt:8:8
 size-right-requires : tie.Need-size-right-requires

@@ -3,10 +3,6 @@ use native.Mathlib.Omega.{arith}
 use Rattle.seek.specs.Walk.{steps-end, steps-on, goes-inside}
 use Rattle.seek.proofs.side.Walk.step.Statement.{statement}
 use Rattle.seek.proofs.side.Walk.step.Tie as tie
-use Rattle.seek.proofs.side.Walk.step.Reads as reads
-use Rattle.seek.proofs.side.Walk.step.Lts as lts
-use Rattle.table.proofs.follow.Reads as follow-reads
-use Rattle.seek.proofs.side.seen.Reads as seen-reads
 
 seen-requires : tie.Need-seen-requires
 seen-requires c κs = goes-inside _ (c .pre .0) (c .pre .1 .0) _ (c .pre .1 .1) .edge

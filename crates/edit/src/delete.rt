@@ -1,5 +1,4 @@
 // Delete: the solid shrinks upwards from its bottom, one slab at a time.
-ghost use mathlib.Core.Path.{_≡_};
 ghost use Prim.Native.Nat.{_+_, _<_, _≤_};
 ghost use Rattle.table.specs.Words.{BOTTOM, TOP, num};
 ghost use Rattle.edit.specs.Carve.{Cuttable};

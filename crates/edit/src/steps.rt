@@ -1,12 +1,8 @@
 // The steps of an edit: the stitches along a side, a tile cut in two, two tiles joined, a tile painted, a free record found.
 // A step at a column is the step at a row with x and y exchanged: f is 0 or 1, and flips the place of each word.
-ghost use mathlib.Core.Path.{_≡_};
-ghost use Prim.Native.Nat.{_+_, _*_, _<_, _≤_, _^_};
-ghost use lib.ListN.{length};
-ghost use Rattle.geometry.specs.Picture.{ZERO};
+ghost use Prim.Native.Nat.{_+_, _<_, _^_};
 ghost use Rattle.geometry.specs.Turns.{opp};
-ghost use Rattle.table.specs.Words.{WIDTH, recordsOf, num};
-ghost use Rattle.table.specs.Forms.{link};
+ghost use Rattle.table.specs.Words.{recordsOf};
 ghost use Rattle.edit.specs.Steps.{FreeIn, Painted, Splits, Split, Joins, Joined};
 ghost use Rattle.edit.specs.Free.{HasFree, FirstFree};
 ghost use Rattle.edit.specs.Writes.{CanPut, Put, CanPutThree, Three, CanCopy, Copied, Cleared};

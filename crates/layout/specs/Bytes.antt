@@ -61,9 +61,6 @@ pub record SavedFits (s : Saved) : Type 0 where
 abbrev pub AllFit : List Saved → Type 0
 AllFit ss = (n : ℕ) (d : Saved) → n < length ss → SavedFits (getD ss n d)
 
-abbrev pub AreBytes : List ℕ → Type 0
-AreBytes bs = (n : ℕ) → getD bs n 0 < 256
-
 -- what reading a word, and a record, gives
 pub record WordAt (bs : List ℕ) (at r : ℕ) : Type 0 where
   pub is : r ≡ wordAt bs at

@@ -101,23 +101,20 @@ fn accepted(runs: Runs) {
     black_box(runs.value);
 }
 
-/// The seconds of so many calls, the check taken off, as all questions together show them.
+/// The seconds of so many calls, the check taken off, as all questions together show them. Both programs are measured by it,
+/// so that what a check leaves behind in the machine is the same for both.
 fn without_check(times: usize, mut call: impl FnMut(usize, u32)) -> f64 {
     let mut seconds = 0.0;
     for number in 0..QUESTIONS {
         seconds += repeated(1, |_| call(number, TIMES)) - repeated(1, |_| call(number, 0));
     }
-    scaled(seconds.max(0.0), times)
+    seconds.max(0.0) * times as f64 / (QUESTIONS * TIMES as usize) as f64
 }
 
-/// The same for a function that checks nothing, which gets the numbers of the question and of the run.
-fn unchecked(times: usize, mut call: impl FnMut(usize, i32)) -> f64 {
-    let runs = TIMES as usize;
-    scaled(repeated(QUESTIONS * runs, |number| call(number / runs, (number % runs + 1) as i32)), times)
-}
-
-fn scaled(seconds: f64, times: usize) -> f64 {
-    seconds * times as f64 / (QUESTIONS * TIMES as usize) as f64
+/// The plain program's course, the same as the server's: one check, then the work of run 0 to `repeats`.
+fn after_check(words: &[i32], repeats: u32, work: impl FnMut(i32)) {
+    consumed(plain::check(black_box(words)));
+    (0..=repeats as i32).for_each(work);
 }
 
 fn find(work: &Work) -> Medians {
@@ -130,9 +127,11 @@ fn find(work: &Work) -> Medians {
             })
         },
         &mut |times| {
-            unchecked(times, |number, run| {
-                let (x, y) = nth(&work.cells, number);
-                black_box(seek::find(black_box(table), seek::start(table, run), x, y));
+            without_check(times, |number, repeats| {
+                after_check(words, repeats, |run| {
+                    let (x, y) = nth(&work.cells, number);
+                    black_box(seek::find(black_box(table), seek::start(table, run), x, y));
+                })
             })
         },
         &mut |times| {
@@ -151,9 +150,11 @@ fn search(work: &Work) -> Medians {
             })
         },
         &mut |times| {
-            unchecked(times, |number, run| {
-                let from = seek::start(table, run);
-                black_box(seek::search(black_box(table), from, &nth(&work.areas, number)));
+            without_check(times, |number, repeats| {
+                after_check(words, repeats, |run| {
+                    let from = seek::start(table, run);
+                    black_box(seek::search(black_box(table), from, &nth(&work.areas, number)));
+                })
             })
         },
         &mut |times| {
@@ -175,11 +176,13 @@ fn neighbours(work: &Work) -> Medians {
             })
         },
         &mut |times| {
-            unchecked(times, |number, run| {
-                let ((x, y), side) = (nth(&work.held, number), number % 4);
-                let tile = seek::find(black_box(table), seek::start(table, run), x, y);
-                let walk = Along { table: black_box(table), tile, side: &seek::SIDES[side] };
-                consumed(plain::fill(black_box(&mut plain_list), &walk));
+            without_check(times, |number, repeats| {
+                after_check(words, repeats, |run| {
+                    let ((x, y), side) = (nth(&work.held, number), number % 4);
+                    let tile = seek::find(black_box(table), seek::start(table, run), x, y);
+                    let walk = Along { table: black_box(table), tile, side: &seek::SIDES[side] };
+                    consumed(plain::fill(black_box(&mut plain_list), &walk));
+                })
             })
         },
         &mut |times| {
@@ -206,9 +209,11 @@ fn enumerate(work: &Work) -> Medians {
             })
         },
         &mut |times| {
-            unchecked(times, |_, run| {
-                let walk = Listing { table: black_box(table), from: seek::start(table, run), area: Rect::PLANE };
-                consumed(plain::fill(black_box(&mut plain_list), &walk));
+            without_check(times, |_, repeats| {
+                after_check(words, repeats, |run| {
+                    let walk = Listing { table: black_box(table), from: seek::start(table, run), area: Rect::PLANE };
+                    consumed(plain::fill(black_box(&mut plain_list), &walk));
+                })
             })
         },
         &mut |times| repeated(times, |_| consumed(answers::enumerate(black_box(&work.tiles), &Rect::PLANE))),
@@ -228,12 +233,14 @@ fn edit(work: &Work) -> Medians {
             })
         },
         &mut |times| {
-            unchecked(times, |number, run| {
-                let table = records_mut(black_box(&mut plain_words));
-                let from = seek::start(table, run);
-                let mut editor = Editor::new(table);
-                let solid = editor.create(from, &nth(&work.free, number), LABEL);
-                editor.delete(solid);
+            without_check(times, |number, repeats| {
+                after_check(&work.fewer, repeats, |run| {
+                    let table = records_mut(black_box(&mut plain_words));
+                    let from = seek::start(table, run);
+                    let mut editor = Editor::new(table);
+                    let solid = editor.create(from, &nth(&work.free, number), LABEL);
+                    editor.delete(solid);
+                })
             })
         },
         &mut |times| {
@@ -257,7 +264,11 @@ fn save(work: &Work) -> Medians {
                 accepted(unsafe { rep_save(words.as_ptr(), words.len(), place, room, repeats) });
             })
         },
-        &mut |times| unchecked(times, |_, _| saved::write(black_box(table), black_box(&mut plain_bytes))),
+        &mut |times| {
+            without_check(times, |_, repeats| {
+                after_check(words, repeats, |_| saved::write(black_box(table), black_box(&mut plain_bytes)))
+            })
+        },
         &mut |times| repeated(times, |_| consumed(answers::save(black_box(&work.solids)))),
     )
 }

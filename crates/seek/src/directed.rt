@@ -68,7 +68,8 @@ fn next(mut w: Walk, t: &[i32], bottom: u64) -> Walk
 }
 
 // The tree of tile p, as much of it as the list has room for. How many tiles it has. A tile that begins under the floor hangs under another tile,
-// and is the last at p's side. The area comes as four numbers, since a struct would be copied at each call; `left` only states the contract.
+// and is the last at p's side. What is handed on as it came is copied through memory at each call: so the area comes as four numbers, of which
+// `left` only states the contract, and the table is lent on as a part of itself.
 fn subtree(
     t: &[i32],
     out: &mut [i32],
@@ -98,7 +99,7 @@ fn subtree(
         }
         if low < top {
             let at = place_after(n, out.len());
-            let c = subtree(t, &mut out[at..], k, left, bottom, right, top);
+            let c = subtree(&t[..], &mut out[at..], k, left, bottom, right, top);
             n = n + c;
         }
         w = next(w, t, bottom);

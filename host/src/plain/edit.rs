@@ -30,16 +30,18 @@ const ROWS: Axis =
 const COLUMNS: Axis =
     Axis { low: LEFT, high: RIGHT, span_from: BOTTOM, high_side: RT, high_on: TR, low_side: LB, low_on: BL };
 
-/// A sound table under edit, and where a free record was last seen, so that no search begins at the first each time.
+/// A sound table under edit, the records that the edit freed, and where a free one was last seen, so that no search begins
+/// at the first each time.
 pub struct Editor<'a> {
     table: &'a mut [Record],
+    freed: Vec<usize>,
     next_free: usize,
 }
 
 impl<'a> Editor<'a> {
     /// Begins to edit a sound table.
     pub fn new(table: &'a mut [Record]) -> Editor<'a> {
-        Editor { table, next_free: 0 }
+        Editor { table, freed: Vec::new(), next_free: 0 }
     }
 
     /// Adds a solid to a table with so many, unless a rule forbids it. Looks for its place from a tile on.
@@ -59,43 +61,47 @@ impl<'a> Editor<'a> {
         Answer::done(self.create(from, rect, label))
     }
 
-    /// Adds a solid where the area is free and the table has room: it grows downwards, one strip at a time.
+    /// Adds a solid where the area is free and the table has room: it grows upwards, one strip at a time, so that what is
+    /// done keeps its record.
     pub fn create(&mut self, from: usize, rect: &Rect, label: i32) -> usize {
-        let solid = self.take_strip(from, rect, rect.top, label);
-        while self.table[solid][BOTTOM] > rect.bottom {
-            let below = self.take_strip(solid, rect, self.table[solid][BOTTOM], label);
-            self.join(below, solid, solid, &ROWS);
+        let solid = self.take_strip(from, rect, rect.bottom, label);
+        while self.table[solid][TOP] < rect.top {
+            let above = self.take_strip(solid, rect, self.table[solid][TOP], label);
+            self.join(solid, above, solid, &ROWS);
         }
         solid
     }
 
-    /// Paints the strip under the row, and gives back to space what lies outside the rectangle.
-    fn take_strip(&mut self, from: usize, rect: &Rect, top: i32, label: i32) -> usize {
-        let strip = seek::find(self.table, from, rect.left, top - 1);
-        let bottom = self.table[strip][BOTTOM].max(rect.bottom);
+    /// Paints the strip over the row, and gives back to space what lies outside the rectangle.
+    fn take_strip(&mut self, from: usize, rect: &Rect, bottom: i32, label: i32) -> usize {
+        let strip = seek::find(self.table, from, rect.left, bottom);
+        let top = self.table[strip][TOP].min(rect.top);
         self.paint(strip, SOLID, label);
         let strip = self.carve(strip, bottom, top, &ROWS);
         self.carve(strip, rect.left, rect.right, &COLUMNS)
     }
 
-    /// Removes a solid: it shrinks upwards from its bottom, one slab at a time.
+    /// Removes a solid: it shrinks downwards from its top, one slab at a time, so that what is left keeps its record.
     pub fn delete(&mut self, solid: usize) {
-        let mut slab = solid;
+        let mut last = solid;
         loop {
-            let [left, bottom, right, top, ..] = self.table[slab];
-            let before = (left > -EDGE).then(|| self.table[slab][BL] as usize);
-            let after = (right < EDGE).then(|| seek::find(self.table, slab, right, bottom));
-            let tops = [before, after].into_iter().flatten().map(|beside| self.table[beside][TOP]);
-            let stop = tops.fold(top, i32::min);
-            let rest = (stop < top).then(|| self.split(slab, stop, &ROWS));
+            let [left, bottom, _, top, ..] = self.table[solid];
+            let from = if self.table[last][KIND] == FREE { solid } else { last };
+            let before = (left > -EDGE).then(|| seek::find(self.table, from, left - 1, top - 1));
+            let after = usize::try_from(self.table[solid][TR]).ok();
+            let bottoms = [before, after].into_iter().flatten().map(|beside| self.table[beside][BOTTOM]);
+            let stop = bottoms.fold(bottom, i32::max);
+            let cut = bottom < stop;
+            let at_the_cut = before.map_or(NO_TILE, |tile| tile as i32);
+            let slab = if cut { self.split_at(solid, stop, at_the_cut, &ROWS) } else { solid };
             for beside in [before, after].into_iter().flatten() {
                 self.take_in(slab, beside);
             }
             self.open_up(slab);
-            match rest {
-                None => return,
-                Some(upper) => slab = upper,
+            if !cut {
+                return;
             }
+            last = before.unwrap_or(solid);
         }
     }
 
@@ -133,14 +139,16 @@ impl<'a> Editor<'a> {
         kept
     }
 
-    /// Makes a piece space, and one with the space of equal span right above and right below it.
+    /// Makes a piece space, and one with the space of equal span right above and right below it, whose records stay.
     fn open_up(&mut self, piece: usize) {
         self.paint(piece, SPACE, 0);
-        if let Some(above) = self.its_like(piece, RT) {
-            self.join(piece, above, piece, &ROWS);
+        let above = self.its_like(piece, RT);
+        if let Some(above) = above {
+            self.join(piece, above, above, &ROWS);
         }
+        let piece = above.unwrap_or(piece);
         if let Some(below) = self.its_like(piece, LB) {
-            self.join(below, piece, piece, &ROWS);
+            self.join(below, piece, below, &ROWS);
         }
     }
 
@@ -150,7 +158,11 @@ impl<'a> Editor<'a> {
         (other[KIND] == SPACE && other[LEFT] == one[LEFT] && other[RIGHT] == one[RIGHT]).then_some(named)
     }
 
+    /// One that this edit freed, or else the next.
     fn free_record(&mut self) -> usize {
+        if let Some(freed) = self.freed.pop() {
+            return freed;
+        }
         let count = self.table.len();
         let turns = (self.next_free..count).chain(0..self.next_free);
         let free = |&place: &usize| self.table[place][KIND] == FREE;
@@ -160,16 +172,21 @@ impl<'a> Editor<'a> {
 
     /// Cuts a tile in two at a line; the higher part gets a free record, which is the answer.
     fn split(&mut self, tile: usize, line: i32, axis: &Axis) -> usize {
+        let mut beside = self.table[tile][axis.low_side];
+        while beside >= 0 && self.table[beside as usize][axis.high] <= line {
+            beside = self.table[beside as usize][axis.high_on];
+        }
+        self.split_at(tile, line, beside, axis)
+    }
+
+    /// The same where the tile beside the cut, at the low side, is known.
+    fn split_at(&mut self, tile: usize, line: i32, beside: i32, axis: &Axis) -> usize {
         let other = self.free_record();
         self.table[other] = self.table[tile];
         let [start, end] = [self.table[tile][axis.span_from], self.table[tile][axis.high]];
         let crossing = |at: &Record| at[axis.low] >= line;
         self.table[tile][axis.high_side] =
             self.repoint(self.table[tile][axis.high_side], axis.low_on, axis.low_side, other, crossing);
-        let mut beside = self.table[tile][axis.low_side];
-        while beside >= 0 && self.table[beside as usize][axis.high] <= line {
-            beside = self.table[beside as usize][axis.high_on];
-        }
         self.table[other][axis.low_side] = beside;
         self.repoint(beside, axis.high_on, axis.high_side, other, |at| at[axis.high] <= end);
         let over = self.table[tile][axis.high_on];
@@ -192,7 +209,7 @@ impl<'a> Editor<'a> {
             self.table[kept][word] = self.table[high][word];
         }
         self.table[gone] = [0; RECORD_WORDS];
-        self.next_free = gone;
+        self.freed.push(gone);
     }
 
     /// Every stitch that names one tile names the other from now on.

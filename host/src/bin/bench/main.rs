@@ -1,6 +1,7 @@
 //! How long each call takes, as ratios to the same method in plain Rust and to the rectangle-list program, at three
 //! sizes. All three, and all sizes, are timed in turns within one run, so that what disturbs one disturbs the others.
-//! The feature `inner` adds the calls' inner work, without the check of the table.
+//! Then the layouts that are hardest on an edit, against the check of the same table. The feature `inner` adds the calls'
+//! inner work, without the check of the table.
 //!
 //! `bench [--markdown] [--quick]`: `--markdown` prints the ratios alone, as the README quotes them; `--quick` takes so
 //! few samples that it tells only whether everything still runs.
@@ -10,6 +11,7 @@ mod inner;
 mod report;
 mod timing;
 mod work;
+mod worst;
 
 use report::Form;
 use std::process::ExitCode;
@@ -40,6 +42,11 @@ fn main() -> ExitCode {
     table(form, "whole call", "pass", &calls::CHECK_AND_PASS, &works);
     #[cfg(feature = "inner")]
     table(form, "inner work", "list", &inner::MEASURES, &works);
+    form.worst_head();
+    for layout in worst::LAYOUTS {
+        let measured = layout.measure(timing::passes());
+        layout.calls.iter().zip(measured).for_each(|((call, _), passes)| form.worst_row(layout.name, call, &passes));
+    }
     ExitCode::SUCCESS
 }
 

@@ -1,5 +1,6 @@
 //! The measured times as tables: one line for each size with times and ratios, or one for each call with ratios alone.
 use crate::timing::{median, Medians};
+use crate::worst::{Beyond, BRANCHES};
 use crate::SIZES;
 
 #[derive(Clone, Copy)]
@@ -35,10 +36,42 @@ impl Form {
         }
     }
 
+    /// The hardest layouts.
+    pub fn worst_head(self) {
+        match self {
+            Form::Times => println!("\nWork beyond the check, in checks of the same table, and its growth"),
+            Form::Markdown => {
+                let checks = BRANCHES.map(|count| format!(" checks, {count} |")).concat();
+                let growth: String = BRANCHES[1..].iter().map(|count| format!(" growth to {count} |")).collect();
+                println!("\n| layout | call |{checks}{growth}");
+                println!("|---|---|{}", "--:|".repeat(2 * BRANCHES.len() - 1));
+            }
+        }
+    }
+
+    /// One call on such a layout: its passes at each number of branches.
+    pub fn worst_row(self, layout: &str, call: &str, passes: &[Vec<Beyond>]) {
+        let checks = passes.iter().map(|passes| median(passes.iter().map(|pass| pass.checks)));
+        let growth = passes.windows(2).map(|sizes| ratio(&sizes[0], &sizes[1], |pass| pass.work));
+        let ratios: Vec<String> = checks.chain(growth).map(short).collect();
+        match self {
+            Form::Times => {
+                let work = passes.iter().map(|passes| median(passes.iter().map(|pass| pass.work)));
+                let work: Vec<String> = work.map(|work| format!("{work:>9.2} us")).collect();
+                println!(
+                    "{layout:>29} {call:>11} {} {}",
+                    work.join(""),
+                    ratios.iter().map(|ratio| format!("{ratio:>8}")).collect::<String>()
+                );
+            }
+            Form::Markdown => println!("| {layout} | {call} | {} |", ratios.join(" | ")),
+        }
+    }
+
     /// One call: its passes at each size.
     pub fn row(self, call: &str, passes: &[Vec<Medians>]) {
         let medians: Vec<Medians> = passes.iter().map(|passes| Medians::of_passes(passes)).collect();
-        let growth: Vec<f64> = passes.windows(2).map(|sizes| growth(&sizes[0], &sizes[1])).collect();
+        let growth: Vec<f64> = passes.windows(2).map(|sizes| ratio(&sizes[0], &sizes[1], |pass| pass.server)).collect();
         match self {
             Form::Times => {
                 let growth = std::iter::once(String::new()).chain(growth.iter().map(|growth| format!("{growth:.1}")));
@@ -56,9 +89,9 @@ impl Form {
     }
 }
 
-/// From one size to the next, within each pass.
-fn growth(smaller: &[Medians], larger: &[Medians]) -> f64 {
-    median(smaller.iter().zip(larger).map(|(smaller, larger)| larger.server / smaller.server))
+/// How a figure grows from one size to the next, within each pass.
+fn ratio<T>(smaller: &[T], larger: &[T], figure: fn(&T) -> f64) -> f64 {
+    median(smaller.iter().zip(larger).map(|(smaller, larger)| figure(larger) / figure(smaller)))
 }
 
 fn print_times(call: &str, solids: usize, medians: &Medians, growth: &str) {

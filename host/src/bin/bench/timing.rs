@@ -4,7 +4,6 @@ use std::sync::atomic::{AtomicBool, Ordering};
 use std::time::Instant;
 
 const PASSES: usize = 7;
-/// Of a pass; those that warm up are not counted.
 const ROUNDS: usize = 11;
 const WARM_UP: usize = 2;
 const QUICK_ROUNDS: usize = 2;
@@ -84,8 +83,24 @@ pub fn be_quick() {
     QUICK.store(true, Ordering::Relaxed);
 }
 
-fn quick() -> bool {
+pub fn quick() -> bool {
     QUICK.load(Ordering::Relaxed)
+}
+
+/// How many rounds a pass has; those that warm up are not counted.
+pub struct Rounds {
+    pub warm_up: usize,
+    pub counted: usize,
+}
+
+impl Rounds {
+    pub fn now() -> Rounds {
+        if quick() {
+            Rounds { warm_up: 0, counted: QUICK_ROUNDS }
+        } else {
+            Rounds { warm_up: WARM_UP, counted: ROUNDS }
+        }
+    }
 }
 
 /// How often every size has its turn.
@@ -100,11 +115,11 @@ pub fn passes() -> usize {
 pub fn medians<'a>(server: Sample<'a>, plain: Sample<'a>, list: Sample<'a>) -> Medians {
     let mut samples = [server, plain, list];
     let repeats = samples.each_mut().map(repeats);
-    let (warm_up, rounds) = if quick() { (0, QUICK_ROUNDS) } else { (WARM_UP, ROUNDS) };
+    let Rounds { warm_up, counted } = Rounds::now();
     let mut round =
         || std::array::from_fn(|program| samples[program](repeats[program]) * 1e6 / repeats[program] as f64);
     (0..warm_up).for_each(|_| consumed(round()));
-    Medians::of_rounds(&(0..rounds).map(|_| round()).collect::<Vec<_>>())
+    Medians::of_rounds(&(0..counted).map(|_| round()).collect::<Vec<_>>())
 }
 
 fn repeats(sample: &mut Sample) -> usize {

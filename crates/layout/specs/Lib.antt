@@ -3,7 +3,6 @@ pub mod Patch
 pub mod Bytes
 pub mod BytesLaws
 pub mod Order
-pub mod Sorting
 pub mod Keys
 pub mod Saving
 pub mod OneOrder

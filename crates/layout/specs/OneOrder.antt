@@ -19,8 +19,9 @@ use Rattle.seek.specs.Meaning.{SolidIn, Lists}
 use Rattle.seek.specs.Lists.{lists-one}
 use Rattle.layout.specs.Bytes.{fileBytes}
 use Rattle.layout.specs.Order.{Comes, higher, level, savedOf, Saves}
-use Rattle.layout.specs.Keys.{keysTo, recordOf, sorted-lists}
-use Rattle.layout.specs.Sorting.{sorted, sorted-sorts}
+use Rattle.sorting.specs.Sorting.{sorted, sorted-sorts}
+use Rattle.sorting.specs.Keys.{recordOf}
+use Rattle.layout.specs.Keys.{keysTo, sorted-lists}
 
 -- ---- the order of a saved layout
 

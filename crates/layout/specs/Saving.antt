@@ -1,4 +1,4 @@
--- Save step by step: the keys collected, and the records written in their order. Assumes nothing.
+-- Save step by step: the records written in the order of their keys. Assumes nothing.
 use mathlib.Core.Path.{_≡_, refl, sym, ap, ap₂, _∙_, subst}
 use mathlib.Core.List.{List, [], _∷_, _++_, map, append-nil, append-assoc}
 use Prim.Native.Nat.{ℕ, suc, _+_, _*_, _≤_, _<_}
@@ -15,51 +15,9 @@ use Rattle.layout.specs.Bytes.{recordBytes, fileBytes, SavedFits}
 use Rattle.layout.specs.BytesLaws.{file-length, record-length}
 use Rattle.layout.specs.Patch.{patch, patch-none, patch-then, patch-start}
 use Rattle.layout.specs.Order.{savedOf, Saves}
-use Rattle.layout.specs.Keys.{key, keysTo, recordOf, keys-solid, keys-other, keys-length, keys-room, record-at, sorted-lists}
-use Rattle.layout.specs.Sorting.{Sorts}
-
--- ---- collecting
-
--- what collecting the keys of a table leaves
-pub record Collects (t : List ℤ) (keys : List ℕ) (r : ℕ) : Type 0 where
-  pub number : r ≡ solidsIn t
-  pub are : take r keys ≡ keysTo t (recordsOf t)
-
--- the loop: records below i are done, and n keys are collected
-pub record Collecting (t : List ℤ) (keys₀ keys : List ℕ) (i n : ℕ) : Type 0 where
-  pub within : i ≤ recordsOf t
-  pub long : length keys ≡ length keys₀
-  pub number : n ≡ length (keysTo t i)
-  pub are : take n keys ≡ keysTo t i
-
-pub collecting-none : (t : List ℤ) (keys : List ℕ) → Collecting t keys keys 0 0
-unfolding keysTo
-collecting-none t keys = record { within = omega arith; long = refl; number = refl; are = refl }
-
-pub collecting-solid : (t : List ℤ) (keys₀ keys : List ℕ) (i n : ℕ) → Collecting t keys₀ keys i n → i < recordsOf t → solidsIn t ≤ length keys₀
-    → num t i KIND ≡ SOLID → Collecting t keys₀ (set keys n (key t i)) (i + 1) (n + 1)
-collecting-solid t keys₀ keys i n c h l e =
-    let more = keys-solid t i e in
-    let room = keys-room t i h e in
-    let q : n + 1 ≡ suc n = omega arith in
-    let b : n < length keys = omega arith in
-    record {
-      within = omega arith;
-      long = length-set keys n (key t i) ∙ c .long;
-      number = omega (arith, ap length more, length-append (keysTo t i) (key t i ∷ []));
-      are = ap (λ k. take k (set keys n (key t i))) q ∙ take-suc-set keys n (key t i) b ∙ ap (λ l. l ++ (key t i ∷ [])) (c .are) ∙ sym more;
-    }
-
-pub collecting-other : (t : List ℤ) (keys₀ keys : List ℕ) (i n : ℕ) → Collecting t keys₀ keys i n → i < recordsOf t
-    → (num t i KIND ≡ SOLID → ⊥) → Collecting t keys₀ keys (i + 1) n
-collecting-other t keys₀ keys i n c h e =
-    let more = keys-other t i e in
-    record { within = omega arith; long = c .long; number = c .number ∙ ap length (sym more); are = c .are ∙ sym more }
-
-pub collected : (t : List ℤ) (keys₀ keys : List ℕ) (i n : ℕ) → Collecting t keys₀ keys i n → recordsOf t ≤ i → Collects t keys n
-collected t keys₀ keys i n c h =
-    let e : i ≡ recordsOf t = omega arith in
-    record { number = c .number ∙ ap (λ k. length (keysTo t k)) e ∙ keys-length t (recordsOf t); are = c .are ∙ ap (keysTo t) e }
+use Rattle.sorting.specs.Sorting.{Sorts}
+use Rattle.sorting.specs.Keys.{recordOf}
+use Rattle.layout.specs.Keys.{keysTo, CollectsKeys, record-at, sorted-lists}
 
 -- ---- writing
 
@@ -122,7 +80,7 @@ written t ks out₀ out k w h =
 
 -- ---- save: the n keys among those collected are back as ys, sorted
 
-module _ (t : List ℤ) (f : Forms t) (z : SizeRight t) (keys : List ℕ) (n : ℕ) (c : Collects t keys n) (fit : n ≤ length keys) (ys : List ℕ)
+module _ (t : List ℤ) (f : Forms t) (z : SizeRight t) (keys : List ℕ) (n : ℕ) (c : CollectsKeys t keys n) (fit : n ≤ length keys) (ys : List ℕ)
     (long : length ys ≡ length (take n keys)) (s : Sorts (take n keys) ys) where
   back-long : length ys ≡ n
   back-long = long ∙ length-take-le n keys fit

@@ -1,7 +1,6 @@
 // Saved layouts: a table's solids as bytes, and back, and the lines that the lister prints.
 mod bytes;
 mod saving;
-mod sort;
 mod text;
 
 pub use bytes::Saved;

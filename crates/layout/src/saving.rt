@@ -1,7 +1,7 @@
 // Saving: the solids' keys, sorted, and the records that they name written in that order.
 use crate::bytes::Saved;
 use crate::bytes::put_saved;
-use crate::sort::sort;
+use sorting::sort;
 use table::numbers::BOTTOM;
 use table::numbers::HIGH;
 use table::numbers::KIND;
@@ -21,8 +21,9 @@ ghost use Rattle.table.specs.Forms.{Forms};
 ghost use Rattle.seek.specs.Meaning.{SolidIn};
 ghost use Rattle.layout.specs.Bytes.{fileBytes};
 ghost use Rattle.layout.specs.Order.{Saves};
-ghost use Rattle.layout.specs.Keys.{key, recordOf};
-ghost use Rattle.layout.specs.Saving.{Collects, SavedFrom, savedBy};
+ghost use Rattle.sorting.specs.Keys.{recordOf};
+ghost use Rattle.layout.specs.Keys.{key, CollectsKeys};
+ghost use Rattle.layout.specs.Saving.{SavedFrom, savedBy};
 
 // The width of the plane, and a number above all record numbers.
 const WIDE: u64 = 33554432;
@@ -46,7 +47,7 @@ fn collect(t: &[i32], keys: &mut [u64]) -> usize
     requires { ⌜ Forms (now t) ⌝ }
     requires { ⌜ SizeRight (now t) ⌝ }
     requires { ⌜ solidsIn (now t) ≤ length (now keys) ⌝ }
-    ensures { λ r. ⌜ Collects (now (t .entry)) (now (keys .exit)) r ⌝ }
+    ensures { λ r. ⌜ CollectsKeys (now (t .entry)) (now (keys .exit)) r ⌝ }
 {
     let records = table::records(t);
     let mut n: usize = 0;

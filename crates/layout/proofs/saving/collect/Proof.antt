@@ -6,13 +6,18 @@ use native.Mathlib.Omega.{arith}
 use borrow.Author.Needs.{needs}
 use denote.Ref.{now}
 use Rattle.table.specs.Words.{recordsOf}
-use Rattle.layout.specs.Keys.{keys-room}
-use Rattle.layout.specs.Saving.{Collecting, collecting-none, collecting-solid, collecting-other, collected}
+use borrow.Author.Tests.{eq-eqb, ne-eqb}
+use Rattle.geometry.specs.Picture.{SOLID}
+use Rattle.geometry.specs.Tiling.{eq→eqb}
+use Rattle.table.specs.Words.{KIND, num}
+use Rattle.table.specs.Sound.{solidAt}
+use Rattle.sorting.specs.Keys.{keys-room, Collecting, collecting-none, collecting-yes, collecting-no, collected}
+use Rattle.layout.specs.Keys.{key}
 use Rattle.layout.proofs.saving.collect.Statement.{statement}
 use Rattle.layout.proofs.saving.collect.Tie as tie
 
 abbrev Inv-loop : tie.InvT-loop
-Inv-loop t keys₀ records n₀ i₀ keys n i = Collecting t keys₀ keys i n
+Inv-loop t keys₀ records n₀ i₀ keys n i = Collecting (solidAt t) (key t) (recordsOf t) keys₀ keys i n
 
 abbrev μ-loop : tie.MeasureT-loop
 μ-loop t keys₀ records n₀ i₀ keys n i = recordsOf t - i
@@ -21,7 +26,7 @@ records-requires : tie.Need-records-requires Inv-loop μ-loop
 records-requires c κs = search needs
 
 loop-holds : tie.Need-loop-holds Inv-loop μ-loop
-loop-holds c = collecting-none _ _
+loop-holds c = collecting-none _ _ _ _
 
 word-requires : tie.Need-word-requires Inv-loop μ-loop
 word-requires c κs = search needs
@@ -36,21 +41,21 @@ mul-keys c =
     let at = c .before .before .before .before in
     let t = now (at .before .before .before .args .t) in
     let e = sym (c .before .before .word .ensures .is) ∙ c .before .if1 .taken in
-    omega (arith, keys-room t (at .loop .i) (omega arith) e)
+    omega (arith, keys-room (solidAt t) (key t) (at .loop .i) (recordsOf t) (omega arith) (eq→eqb (num t (at .loop .i) KIND) SOLID e))
 
 slice-write-keys : tie.Need-slice-write-keys Inv-loop μ-loop
 slice-write-keys c =
     let at = c .before .before .before .before in
     let t = now (at .before .before .before .args .t) in
     let e = sym (c .before .before .word .ensures .is) ∙ c .before .if1 .taken in
-    omega (arith, keys-room t (at .loop .i) (omega arith) e)
+    omega (arith, keys-room (solidAt t) (key t) (at .loop .i) (recordsOf t) (omega arith) (eq→eqb (num t (at .loop .i) KIND) SOLID e))
 
 add-n : tie.Need-add-n Inv-loop μ-loop
 add-n c =
     let at = c .before .before .before .before in
     let t = now (at .before .before .before .args .t) in
     let e = sym (c .before .before .word .ensures .is) ∙ c .before .if1 .taken in
-    omega (arith, keys-room t (at .loop .i) (omega arith) e)
+    omega (arith, keys-room (solidAt t) (key t) (at .loop .i) (recordsOf t) (omega arith) (eq→eqb (num t (at .loop .i) KIND) SOLID e))
 
 add-i : tie.Need-add-i Inv-loop μ-loop
 add-i c = search needs
@@ -62,19 +67,20 @@ loop-again : tie.Need-loop-again Inv-loop μ-loop
 loop-again c =
     let l = c .before .before .before .loop in
     let a = c .before .before .before .before .before .before .args in
-    let h : l .i < recordsOf (now (a .t)) = omega arith in
+    let t = now (a .t) in
+    let h : l .i < recordsOf t = omega arith in
     let is = c .before .word .ensures .is in
     ⊎-elim
     (λ w. rw (w .2, w .3, w .1 .ensures)
-    (collecting-solid (now (a .t)) (now (a .keys)) (l .keys) (l .i) (l .n) (l .inv) h (c .before .before .before .before .before .before .pre .1 .1) (sym is ∙ w .0 .taken)))
-    (λ w. rw (w .1, w .2) (collecting-other (now (a .t)) (now (a .keys)) (l .keys) (l .i) (l .n) (l .inv) h (λ e. w .0 .left (is ∙ e))))
+    (collecting-yes (solidAt t) (key t) (recordsOf t) (now (a .keys)) (l .keys) (l .i) (l .n) (l .inv) h (c .before .before .before .before .before .before .pre .1 .1) (eq-eqb (num t (l .i) KIND) SOLID (sym is ∙ w .0 .taken))))
+    (λ w. rw (w .1, w .2) (collecting-no (solidAt t) (key t) (recordsOf t) (now (a .keys)) (l .keys) (l .i) (l .n) (l .inv) h (ne-eqb (num t (l .i) KIND) SOLID (λ e. w .0 .left (is ∙ e)))))
     (c .if1 .came)
 
 same-length : tie.Need-same-length Inv-loop μ-loop
 same-length c = c .before .loop .inv .long
 
 returns : tie.Need-returns Inv-loop μ-loop
-returns c = collected _ _ _ _ _ (c .before .loop .inv) (omega arith)
+returns c = collected _ _ _ _ _ _ _ (c .before .loop .inv) (omega arith)
 
 pub collect-spec : {M : Type 1} → statement M
 collect-spec =

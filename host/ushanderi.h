@@ -7,7 +7,7 @@
  * tr (right, top - 1), rt (right - 1, top), bl (left - 1, bottom), lb (left, bottom - 1). Space has label 0; a free
  * record is ten zeros. A table of R records takes (R - 16) / 4 solids, rounded down.
  *
- * Every call answers any numbers and any words, and keeps nothing between calls. What no call can ask, its caller sees to:
+ * Every call answers any numbers and any words, and keeps nothing between calls. Its caller sees to what it cannot ask:
  * - A slice is a pointer and a length, and the length is true: so many items lie there, to be read, and to be written
  *   where the pointer is not const. Any words are any contents.
  * - The pointer is aligned for its items and not null, also where the length is 0, and a slice has fewer than 2^63

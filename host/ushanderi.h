@@ -7,8 +7,13 @@
  * tr (right, top - 1), rt (right - 1, top), bl (left - 1, bottom), lb (left, bottom - 1). Space has label 0; a free
  * record is ten zeros. A table of R records takes (R - 16) / 4 solids, rounded down.
  *
- * Every call answers any numbers and any words, and keeps nothing between calls. A slice is a pointer and a length;
- * the pointer is aligned and not null, also where the length is 0; two slices of one call do not overlap. */
+ * Every call answers any numbers and any words, and keeps nothing between calls. Its caller sees to what it cannot ask:
+ * - A slice is a pointer and a length, and the length is true: so many items lie there, to be read, and to be written
+ *   where the pointer is not const. Any words are any contents.
+ * - The pointer is aligned for its items and not null, also where the length is 0, and a slice has fewer than 2^63
+ *   bytes. Two slices of one call do not overlap.
+ * - During a call nobody else writes the lent memory, or reads what the call may write.
+ * - A call takes at most USH_STACK_BYTES of stack below its caller's frame. */
 #ifndef USHANDERI_H
 #define USHANDERI_H
 
@@ -57,6 +62,7 @@ enum { USH_KIND_FREE = 0, USH_KIND_SPACE = 1, USH_KIND_SOLID = 2 };
 #define USH_MOST_RECORDS 4016
 #define USH_RECORDS_FOR(solids) (4 * (solids) + 16)   /* for 1 to 1,000 solids */
 #define USH_SAVED_BYTES 20                            /* of one solid in a saved layout */
+#define USH_STACK_BYTES 327680                        /* 320 KiB; enumerate takes most, on 1,000 solids in a row */
 
 typedef struct { int32_t number; int32_t value; } ush_answer;
 typedef struct { size_t at; size_t len; } ush_part;             /* words table[at .. at + len) */

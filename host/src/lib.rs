@@ -3,6 +3,8 @@
 //! A program that only wants the server uses [`Plane`], whose answers are results with a [`Refusal`]. [`calls`] has the
 //! calls as they are, on words that the caller owns. All other modules belong to the comparison runs and the benchmark:
 //! [`rects`] and [`answers`] are the rectangle-list program, [`plain`] is the server's method in ordinary Rust.
+//!
+//! A call takes at most 320 KiB of stack, which only a thread that was made small lacks.
 #![deny(unsafe_code)]
 #![deny(missing_docs)]
 

@@ -1,2 +1,3 @@
--- What the lister prints.
+-- The lister's sizes, and what it prints.
+pub mod Sizes
 pub mod Listing

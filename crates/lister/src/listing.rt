@@ -11,6 +11,7 @@ ghost use Rattle.table.specs.Words.{recordsOf, tileOf};
 ghost use Rattle.layout.specs.Patch.{Puts};
 ghost use Rattle.layout.specs.Text.{lineOf};
 ghost use Rattle.ushanderi.specs.Promises.{Fit};
+ghost use Rattle.lister.specs.Sizes.{LINE, Sized};
 ghost use Rattle.lister.specs.Listing.{entry, Records, linesAt, ListsPlane, PutsPlane, Lists};
 
 // The plane's ends.
@@ -30,9 +31,9 @@ fn record_at(list: &[i32], n: usize) -> usize
 // The line of tile i.
 fn put_tile(t: &[i32], i: usize, out: &mut [u8], at: usize) -> usize
     requires { ⌜ i < recordsOf (now t) ⌝ }
-    requires { ⌜ at + 80 ≤ length (now out) ⌝ }
+    requires { ⌜ at + LINE ≤ length (now out) ⌝ }
     ensures { λ r. ⌜ Puts (now (out .entry)) (now (out .exit)) at (lineOf (tileOf (now (t .entry)) i)) r ⌝ }
-    ensures { λ r. ⌜ r ≤ at + 80 ⌝ }
+    ensures { λ r. ⌜ r ≤ at + LINE ⌝ }
 {
     let v = table::read(t, i);
     layout::put_line(out, at, v.kind, v.label, v.left, v.bottom, v.right, v.top)
@@ -41,7 +42,7 @@ fn put_tile(t: &[i32], i: usize, out: &mut [u8], at: usize) -> usize
 // The lines of the tiles that a list names.
 fn put_lines(t: &[i32], list: &[i32], out: &mut [u8]) -> usize
     requires { ⌜ Records (now t) (now list) ⌝ }
-    requires { ⌜ 80 * length (now list) ≤ length (now out) ⌝ }
+    requires { ⌜ LINE * length (now list) ≤ length (now out) ⌝ }
     ensures { λ r. ⌜ Puts (now (out .entry)) (now (out .exit)) 0 (linesAt (now (t .entry)) (now (list .entry))) r ⌝ }
     ensures { λ r. ⌜ r ≤ length (now (out .entry)) ⌝ }
 {
@@ -69,7 +70,7 @@ fn list_plane(t: &[i32], list: &mut [i32]) -> usize
 fn put_plane(t: &[i32], list: &mut [i32], out: &mut [u8]) -> usize
     requires { ⌜ Fit (now t) ⌝ }
     requires { ⌜ recordsOf (now t) ≤ length (now list) ⌝ }
-    requires { ⌜ 80 * recordsOf (now t) ≤ length (now out) ⌝ }
+    requires { ⌜ LINE * recordsOf (now t) ≤ length (now out) ⌝ }
     ensures { λ r. ⌜ PutsPlane (now (t .entry)) (now (out .entry)) (now (out .exit)) r ⌝ }
 {
     let n = list_plane(t, list);
@@ -78,8 +79,7 @@ fn put_plane(t: &[i32], list: &mut [i32], out: &mut [u8]) -> usize
 
 // A saved layout loaded into a table, and its text at the start of the lent bytes: how many bytes that is.
 pub(crate) fn list(t: &mut [i32], bytes: &[u8], list: &mut [i32], out: &mut [u8]) -> usize
-    requires { ⌜ recordsOf (now t) ≤ length (now list) ⌝ }
-    requires { ⌜ (80 * recordsOf (now t) ≤ length (now out)) × (80 ≤ length (now out)) ⌝ }
+    requires { ⌜ Sized (now t) (now bytes) (now list) (now out) ⌝ }
     ensures { λ r. ⌜ Lists (now (t .entry)) (now (bytes .entry)) (now (out .exit)) r ⌝ }
 {
     let a = ushanderi::layouts::load(t, bytes);

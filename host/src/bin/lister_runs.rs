@@ -1,5 +1,5 @@
-//! Runs the lister on given inputs and compares what it prints with the rectangle-list program's own listing.
-//! `lister_runs [LISTER]`: the program's path as an argument, or in the variable USHANDERI_LISTER.
+//! Runs the lister on given inputs and compares what it prints with the rectangle-list program's own listing; then on
+//! inputs and outputs that fail. `lister_runs [LISTER]`: the program's path as an argument, or in the variable USHANDERI_LISTER.
 #![forbid(unsafe_code)]
 
 use std::env;
@@ -19,6 +19,16 @@ const VARIABLE: &str = "USHANDERI_LISTER";
 const MOST_SOLIDS: usize = 400;
 const MOST_BYTES: usize = 8_020;
 const RANDOM_LAYOUTS: usize = 150;
+/// In KiB: what the lister needs of stack at most, and is given here.
+const STACK: usize = 512;
+
+/// Inputs and outputs that fail, as a shell gives them, and how the line on standard error begins.
+const FAILURES: [(&str, &str); 4] = [
+    ("<&-", "lister: standard input: "),
+    ("</", "lister: standard input: "),
+    ("</dev/null >&-", "lister: standard output: "),
+    ("</dev/null >/dev/full", "lister: standard output: "),
+];
 
 /// The rules print this one out.
 const LISTING_OF_A: &str = "space 0 -16777216 10 16777216 16777216\nspace 0 -16777216 0 0 10\nsolid 1 0 0 10 10\n\
@@ -52,7 +62,10 @@ fn compare_all(lister: &str) -> Result<usize, String> {
         let (printed, wanted) = (run(lister, bytes)?, listing(bytes));
         agree(printed == wanted, || format!("{name}: printed\n{printed}wanted\n{wanted}"))?;
     }
-    Ok(inputs.len() + 1)
+    for (redirection, told) in FAILURES {
+        fails(lister, redirection, told)?;
+    }
+    Ok(inputs.len() + 1 + FAILURES.len())
 }
 
 /// The solids in this order, which need not be the saved order.
@@ -72,7 +85,8 @@ fn named_inputs() -> Vec<Input> {
         bytes[place] = byte;
         bytes
     };
-    let inputs: [(&str, Vec<u8>); 20] = [
+    let row: Vec<Solid> = (0..MOST_SOLIDS as i32).map(|place| solid(2 * place, 0, 2 * place + 1, 1, 1)).collect();
+    let inputs: [(&str, Vec<u8>); 21] = [
         ("no bytes", vec![]),
         ("A and B", file(&[A, B])),
         ("A, B and C", file(&[A, B, C])),
@@ -80,6 +94,7 @@ fn named_inputs() -> Vec<Input> {
         ("the whole plane", file(&[Solid { rect: Rect::PLANE, label: i32::MAX }])),
         ("a clock tree", file(&clock_tree())),
         ("400 solids", file(&full)),
+        ("400 solids in a row, the deepest listing", file(&row)),
         ("401 records", file(&one_more)),
         ("401 records and a byte", [file(&one_more), vec![7]].concat()),
         ("twice 400 solids", file(&[full.clone(), full.clone()].concat())),
@@ -124,9 +139,17 @@ fn listing(bytes: &[u8]) -> String {
     }
 }
 
+/// The lister, as a shell starts it.
+fn command(lister: &str, redirection: &str) -> Command {
+    let mut command = Command::new("sh");
+    command.args(["-c", &format!("ulimit -s {STACK} && exec \"$0\" {redirection}"), lister]);
+    command.stdin(Stdio::piped()).stdout(Stdio::piped()).stderr(Stdio::piped());
+    command
+}
+
 fn run(lister: &str, bytes: &[u8]) -> Result<String, String> {
     let told = |error: std::io::Error| format!("{lister}: {error}");
-    let mut child = Command::new(lister).stdin(Stdio::piped()).stdout(Stdio::piped()).spawn().map_err(told)?;
+    let mut child = command(lister, "").spawn().map_err(told)?;
     let mut input = child.stdin.take().expect("its input is piped");
     // Fed beside the reading, since neither pipe takes any amount; a lister that reads no further closes its own.
     let output = thread::scope(|scope| {
@@ -138,6 +161,15 @@ fn run(lister: &str, bytes: &[u8]) -> Result<String, String> {
         }
     })
     .map_err(told)?;
-    agree(output.status.success(), || format!("{lister} ended with {} on {} bytes", output.status, bytes.len()))?;
+    let well = output.status.success() && output.stderr.is_empty();
+    agree(well, || format!("{lister} on {} bytes: {output:?}", bytes.len()))?;
     String::from_utf8(output.stdout).map_err(|_| format!("{lister} printed no text"))
+}
+
+/// One line on standard error, and nothing on standard output.
+fn fails(lister: &str, redirection: &str, told: &str) -> Result<(), String> {
+    let output = command(lister, redirection).output().map_err(|error| format!("{lister}: {error}"))?;
+    let error = String::from_utf8_lossy(&output.stderr);
+    let well = output.stdout.is_empty() && error.starts_with(told) && error.lines().count() == 1;
+    agree(well, || format!("{lister} {redirection}: {output:?}"))
 }

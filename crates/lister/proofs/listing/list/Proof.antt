@@ -15,7 +15,7 @@ put-plane-requires c κs =
     let o = k .before .before .before .before in
     let s = o .before .before .before .before in
     let (f, l) = load-well _ _ _ _ (o .load .ensures) (k .if1 .taken) in
-    (f, (omega (arith, s .pre .0), omega (arith, s .pre .1 .0)))
+    (f, (omega (arith, s .pre .words, s .pre .entries), omega (arith, s .pre .words, s .pre .room)))
 
 at-requires : tie.Need-at-requires
 at-requires c κs = search needs
@@ -58,7 +58,7 @@ returns-2 c =
     let s = o .before .before .before .before in
     let f = load-not _ _ _ _ (o .load .ensures) (k .if1 .left) in
     lists-refused _ _ _ _ _ _ _ _ _ f (n .at .ensures .is ∙ f .first) (v .at2 .ensures .is ∙ f .second) (p .put-refused .ensures .0)
-    (omega (arith, p .put-refused .ensures .1, s .pre .1 .1)) (p .put-refused .kept .0)
+    (omega (arith, p .put-refused .ensures .1, s .pre .room)) (p .put-refused .kept .0)
 
 pub list-spec : {M : Type 1} → statement M
 list-spec =

@@ -15,7 +15,9 @@ use Rattle.seek.specs.Meaning.{SolidIn, Area, RectRight, First}
 use Rattle.seek.specs.Search.{first-one, free-no-first}
 use Rattle.ushanderi.specs.Answers.{DONE, RECT, LABEL, OCCUPIED, FULL, answered, accepted, refused}
 use Rattle.ushanderi.specs.declared.answer.Answer.{Answer}
-use Rattle.ushanderi.specs.Promises.{Unfit, Fit, drawn, Adds, Edited, CreateSays}
+use Rattle.ushanderi.specs.Edits.{drawn, Adds, Edited}
+use Rattle.ushanderi.specs.Promises.{Unfit, Fit, CreateRefuses, CreateDone, CreateSays}
+use Rattle.ushanderi.specs.Editing.{refusal}
 use Rattle.claims.specs.AgreeChecks.{Then, stops, goes, both, same, join, NotFit, not-fit, unfit-agrees, fit-forms, number-is, not-done, unfit-not-done}
 use Rattle.claims.specs.AgreePicture.{Shows, SamePicture, SameTiles, picture-turned, shows, space-agrees, picture-count}
 
@@ -31,10 +33,10 @@ record Occupied (t : List ℤ) (A : Area) (a : Answer) : Type 0 where
   met : Met t A
   is : a ≡ answered OCCUPIED (met .i)
 
-record Created (t : List ℤ) (A : Area) (label : ℕ) (t′ : List ℤ) (a : Answer) : Type 0 where
+-- an accepted create and its answer
+pub record Created (t : List ℤ) (A : Area) (label : ℕ) (t′ : List ℤ) (a : Answer) : Type 0 where
   pub at : ℕ
-  pub edited : Edited t t′
-  pub adds : Adds t t′ at (drawn A label)
+  pub done : CreateDone t A label t′ at
   pub is : a ≡ accepted at
 
 abbrev Checked : List ℤ → Area → ℕ → List ℤ → Answer → Type 0
@@ -46,20 +48,29 @@ Checked t A label t′ a =
 
 create-order : (t : List ℤ) (A : Area) (label : ℕ) (t′ : List ℤ) (a : Answer) → CreateSays t A label t′ a
     → Then (NotFit t) (Unfit t a × (t′ ≡ t)) (Fit t × Checked t A label t′ a)
-create-order t A label t′ a (CreateSays.unfit n w) = stops (not-fit t a n) (n, w)
-create-order t A label t′ a (CreateSays.rect f n e w) = goes (λ m. m f) (f, stops n (e, w))
-create-order t A label t′ a (CreateSays.label f r l e w) = goes (λ m. m f) (f, goes (λ m. m r) (stops l (e, w)))
-create-order t A label t′ a (CreateSays.occupied f r l x y i h e w) =
+create-order t A label t′ a (CreateSays.refuses (CreateRefuses.unfit n) w) = stops (not-fit t a n) (n, w)
+create-order t A label t′ a (CreateSays.refuses (CreateRefuses.rect f n e) w) = goes (λ m. m f) (f, stops n (e, w))
+create-order t A label t′ a (CreateSays.refuses (CreateRefuses.label f r l e) w) = goes (λ m. m f) (f, goes (λ m. m r) (stops l (e, w)))
+create-order t A label t′ a (CreateSays.refuses (CreateRefuses.occupied f r l x y i h e) w) =
     let m : Met t A = record { x = x; y = y; i = i; first = h } in
     goes (λ m. m f) (f, goes (λ m. m r) (goes (λ h. omega arith) (stops m (record { met = m; is = e }, w))))
-create-order t A label t′ a (CreateSays.full f r l h n e w) =
+create-order t A label t′ a (CreateSays.refuses (CreateRefuses.full f r l h n e) w) =
     goes (λ m. m f) (f, goes (λ m. m r) (goes (λ h. omega arith) (goes (λ m. free-no-first t A (m .x) (m .y) (m .i) h (m .first)) (stops n (e, w)))))
-create-order t A label t′ a (CreateSays.done f r l h n k d s e) =
-    goes (λ m. m f) (
-      f,
-      goes (λ m. m r) (goes (λ h. omega arith) (goes (λ m. free-no-first t A (m .x) (m .y) (m .i) h (m .first))
-          (goes (λ h. omega arith) (record { at = k; edited = d; adds = s; is = e })))),
+create-order t A label t′ a (CreateSays.done k d e) =
+    let b = d .allows in
+    goes (λ m. m (b .fit)) (
+      b .fit,
+      goes (λ m. m (b .rect)) (goes (λ h. omega (arith, b .named)) (goes (λ m. free-no-first t A (m .x) (m .y) (m .i) (b .free) (m .first))
+          (goes (λ h. omega (arith, b .few)) (record { at = k; done = d; is = e })))),
     )
+
+-- no refusal is DONE
+pub refuses-not-done : {t : List ℤ} {A : Area} {label : ℕ} {a : Answer} → CreateRefuses t A label a → a .number ≢ pos DONE
+refuses-not-done {t} {A} {label} {a} r h = let f = refusal t A label a r in not-done (f .is) (λ e. omega (arith, f .some)) h
+
+pub create-done : {t : List ℤ} {A : Area} {label : ℕ} {t′ : List ℤ} {a : Answer} → CreateSays t A label t′ a → a .number ≡ pos DONE → Created t A label t′ a
+create-done (CreateSays.refuses r w) h = absurd (refuses-not-done r h)
+create-done (CreateSays.done k d e) h = record { at = k; done = d; is = e }
 
 -- on a fit table
 create-checked : (t : List ℤ) (A : Area) (label : ℕ) (t′ : List ℤ) (a : Answer) → Fit t → CreateSays t A label t′ a → Checked t A label t′ a
@@ -141,10 +152,10 @@ module _ (u v : List ℤ) (A : Area) (label : ℕ) (u′ v′ : List ℤ) (a b :
         number = number-is (p .is) ∙ sym (number-is (q .is));
         done = λ h.
             record {
-              left = edited-fit u u′ (l .left) (p .edited);
-              right = edited-fit v v′ (l .right) (q .edited);
-              size = p .edited .size ∙ l .size ∙ sym (q .edited .size);
-              picture = adds-picture u v u′ v′ (p .at) (q .at) (drawn A label) (l .picture) (p .adds) (q .adds);
+              left = edited-fit u u′ (l .left) (p .done .edited);
+              right = edited-fit v v′ (l .right) (q .done .edited);
+              size = p .done .edited .size ∙ l .size ∙ sym (q .done .edited .size);
+              picture = adds-picture u v u′ v′ (p .at) (q .at) (drawn A label) (l .picture) (p .done .adds) (q .done .adds);
             };
       }
 
@@ -163,7 +174,7 @@ module _ (u v : List ℤ) (A : Area) (label : ℕ) (u′ v′ : List ℤ) (a b :
 abbrev pub Keeps : List ℤ → List ℤ → Type 0
 Keeps t u = (i : ℕ) → SolidIn t i → SolidIn u i × (tileOf u i ≡ tileOf t i)
 
-pub record CreateDone (t u v : List ℤ) : Type 0 where
+pub record CreatedAgree (t u v : List ℤ) : Type 0 where
   pub picture : SamePicture u v
   pub tiles : SameTiles u v
   pub kept : Keeps t u
@@ -172,7 +183,7 @@ pub record CreateDone (t u v : List ℤ) : Type 0 where
 pub record CreateAgrees (t u v : List ℤ) (a b : Answer) : Type 0 where
   pub number : a .number ≡ b .number
   pub refused : a .number ≢ pos DONE → (a ≡ b) × (u ≡ v)
-  pub done : a .number ≡ pos DONE → CreateDone t u v
+  pub done : a .number ≡ pos DONE → CreatedAgree t u v
 
 module _ (t : List ℤ) (A : Area) (label : ℕ) (u v : List ℤ) (a b : Answer) where
   refused-same : (n i j : ℕ) → n ≢ DONE → a ≡ answered n i → b ≡ answered n j → i ≡ j → u ≡ t → v ≡ t → CreateAgrees t u v a b
@@ -190,16 +201,16 @@ module _ (t : List ℤ) (A : Area) (label : ℕ) (u v : List ℤ) (a b : Answer)
 
   created-same : Fit t → Created t A label u a → Created t A label v b → CreateAgrees t u v a b
   created-same f p q =
-      let w : SamePicture u v = adds-picture t t u v (p .at) (q .at) (drawn A label) (alike-self t f .picture) (p .adds) (q .adds) in
+      let w : SamePicture u v = adds-picture t t u v (p .at) (q .at) (drawn A label) (alike-self t f .picture) (p .done .adds) (q .done .adds) in
       record {
         number = number-is (p .is) ∙ sym (number-is (q .is));
         refused = λ h. absurd (h (number-is (p .is)));
         done = λ h.
             record {
               picture = w;
-              tiles = space-agrees u v (edited-fit t u f (p .edited)) (edited-fit t v f (q .edited)) w;
-              kept = p .adds .kept;
-              kept-too = q .adds .kept;
+              tiles = space-agrees u v (edited-fit t u f (p .done .edited)) (edited-fit t v f (q .done .edited)) w;
+              kept = p .done .adds .kept;
+              kept-too = q .done .adds .kept;
             };
       }
 

@@ -13,7 +13,8 @@ use Rattle.seek.specs.Meaning.{SolidIn}
 use Rattle.seek.specs.Find.{Finds}
 use Rattle.ushanderi.specs.Answers.{DONE, POINT, SPACE, ROOM, accepted, refused}
 use Rattle.ushanderi.specs.declared.answer.Answer.{Answer}
-use Rattle.ushanderi.specs.Promises.{Unfit, Fit, Removes, Edited, NoRoom, DeleteSays}
+use Rattle.ushanderi.specs.Edits.{Removes, NoRoom}
+use Rattle.ushanderi.specs.Promises.{Unfit, Fit, DeleteRefuses, DeleteDone, DeleteSays}
 use Rattle.claims.specs.AgreeChecks.{Then, stops, goes, same, join, NotFit, not-fit, unfit-agrees, fit-finds-one, finds-inside, number-is, not-done, unfit-not-done}
 use Rattle.claims.specs.AgreePicture.{SamePicture, SameTiles, space-agrees}
 use Rattle.claims.specs.AgreeCreate.{edited-fit}
@@ -26,12 +27,11 @@ record AtSpace (t : List ℤ) (x y : ℕ) : Type 0 where
   finds : Finds t x y at
   space : num t at KIND ≡ Picture.SPACE
 
-record Deleted (t : List ℤ) (x y : ℕ) (t′ : List ℤ) (a : Answer) : Type 0 where
-  at : ℕ
-  finds : Finds t x y at
-  edited : Edited t t′
-  removes : Removes t t′ at
-  is : a ≡ accepted (num t at Words.LABEL - ZERO)
+-- an accepted delete and its answer
+pub record Deleted (t : List ℤ) (x y : ℕ) (t′ : List ℤ) (a : Answer) : Type 0 where
+  pub at : ℕ
+  pub done : DeleteDone t x y t′ at
+  pub is : a ≡ accepted (num t at Words.LABEL - ZERO)
 
 abbrev Checked : List ℤ → ℕ → ℕ → List ℤ → Answer → Type 0
 Checked t x y t′ a =
@@ -45,18 +45,26 @@ not-space t x y i f h s p =
 
 delete-order : (t : List ℤ) (x y : ℕ) (t′ : List ℤ) (a : Answer) → DeleteSays t x y t′ a
     → Then (NotFit t) (Unfit t a × (t′ ≡ t)) (Fit t × Checked t x y t′ a)
-delete-order t x y t′ a (DeleteSays.unfit n w) = stops (not-fit t a n) (n, w)
-delete-order t x y t′ a (DeleteSays.point f n e w) = goes (λ m. m f) (f, stops n (e, w))
-delete-order t x y t′ a (DeleteSays.space f i h k e w) =
+delete-order t x y t′ a (DeleteSays.refuses (DeleteRefuses.unfit n) w) = stops (not-fit t a n) (n, w)
+delete-order t x y t′ a (DeleteSays.refuses (DeleteRefuses.point f n e) w) = goes (λ m. m f) (f, stops n (e, w))
+delete-order t x y t′ a (DeleteSays.refuses (DeleteRefuses.space f i h k e) w) =
     goes (λ m. m f) (f, goes (λ m. m (finds-inside t f x y i h)) (stops (record { at = i; finds = h; space = k }) (e, w)))
-delete-order t x y t′ a (DeleteSays.room f i h s n e w) =
+delete-order t x y t′ a (DeleteSays.refuses (DeleteRefuses.room f i h s n e) w) =
     goes (λ m. m f) (f, goes (λ m. m (finds-inside t f x y i h)) (goes (not-space t x y i f h s) (stops n (e, w))))
-delete-order t x y t′ a (DeleteSays.done f i h s n d r e) =
-    goes (λ m. m f) (
-      f,
-      goes (λ m. m (finds-inside t f x y i h)) (goes (not-space t x y i f h s)
-          (goes n (record { at = i; finds = h; edited = d; removes = r; is = e }))),
+delete-order t x y t′ a (DeleteSays.done i d e) =
+    let b = d .allows in
+    goes (λ m. m (b .fit)) (
+      b .fit,
+      goes (λ m. m (finds-inside t (b .fit) x y i (b .finds))) (goes (not-space t x y i (b .fit) (b .finds) (b .solid))
+          (goes (b .room) (record { at = i; done = d; is = e }))),
     )
+
+pub delete-done : {t : List ℤ} {x y : ℕ} {t′ : List ℤ} {a : Answer} → DeleteSays t x y t′ a → a .number ≡ pos DONE → Deleted t x y t′ a
+delete-done {t} {a = a} (DeleteSays.refuses (DeleteRefuses.unfit n) w) h = absurd (unfit-not-done t a n h)
+delete-done (DeleteSays.refuses (DeleteRefuses.point f n e) w) h = absurd (not-done e (λ e. omega arith) h)
+delete-done (DeleteSays.refuses (DeleteRefuses.space f i m k e) w) h = absurd (not-done e (λ e. omega arith) h)
+delete-done (DeleteSays.refuses (DeleteRefuses.room f i m s n e) w) h = absurd (not-done e (λ e. omega arith) h)
+delete-done (DeleteSays.done i d e) h = record { at = i; done = d; is = e }
 
 -- ---- two answers to one delete
 
@@ -65,14 +73,14 @@ pub record SameRecords (u v : List ℤ) : Type 0 where
   pub solids : (i : ℕ) → SolidIn u i ↔ SolidIn v i
   pub tiles : (i : ℕ) → SolidIn u i → tileOf u i ≡ tileOf v i
 
-pub record DeleteDone (u v : List ℤ) : Type 0 where
+pub record DeletedAgree (u v : List ℤ) : Type 0 where
   pub solids : SameRecords u v
   pub tiles : SameTiles u v
 
 pub record DeleteAgrees (u v : List ℤ) (a b : Answer) : Type 0 where
   pub answer : a ≡ b
   pub refused : a .number ≢ pos DONE → u ≡ v
-  pub done : a .number ≡ pos DONE → DeleteDone u v
+  pub done : a .number ≡ pos DONE → DeletedAgree u v
 
 pub records-picture : (u v : List ℤ) → SameRecords u v → SamePicture u v
 records-picture u v s w = (
@@ -105,15 +113,15 @@ module _ (t : List ℤ) (x y : ℕ) (u v : List ℤ) (a b : Answer) where
 
   deleted-same : Fit t → Deleted t x y u a → Deleted t x y v b → DeleteAgrees u v a b
   deleted-same f p q =
-      let e : q .at ≡ p .at = fit-finds-one t f x y (q .at) (p .at) (q .finds) (p .finds) in
-      let s = removes-same t u v (p .at) (p .removes) (subst (Removes t v) e (q .removes)) in
+      let e : q .at ≡ p .at = fit-finds-one t f x y (q .at) (p .at) (q .done .allows .finds) (p .done .allows .finds) in
+      let s = removes-same t u v (p .at) (p .done .removes) (subst (Removes t v) e (q .done .removes)) in
       record {
         answer = p .is ∙ ap (λ i. accepted (num t i Words.LABEL - ZERO)) (sym e) ∙ sym (q .is);
         refused = λ h. absurd (h (number-is (p .is)));
         done = λ h.
             record {
               solids = s;
-              tiles = space-agrees u v (edited-fit t u f (p .edited)) (edited-fit t v f (q .edited)) (records-picture u v s);
+              tiles = space-agrees u v (edited-fit t u f (p .done .edited)) (edited-fit t v f (q .done .edited)) (records-picture u v s);
             };
       }
 

@@ -1,5 +1,5 @@
 -- Two answers that load's promise allows agree, but for the records of solids and of space tiles. Assumes nothing.
-use mathlib.Core.Path.{_≡_, refl, sym, subst}
+use mathlib.Core.Path.{_≡_, refl, sym, ap, subst}
 use mathlib.Core.Logic.{_≢_}
 use mathlib.Core.List.{List}
 use Prim.Native.Nat.{ℕ, _/_, _%_, _≤_, _<_}
@@ -13,10 +13,10 @@ use Rattle.table.specs.FreshSound.{fresh-length, fresh-sound}
 use Rattle.layout.specs.Bytes.{savedAt}
 use Rattle.ushanderi.specs.Answers.{DONE, SIZE, FILE, answered, accepted, refused}
 use Rattle.ushanderi.specs.declared.answer.Answer.{Answer}
-use Rattle.ushanderi.specs.Promises.{Fit, CreateSays, areaIn, Built, LoadSays}
+use Rattle.ushanderi.specs.Promises.{Fit, CreateRefuses, CreateDone, CreateSays, areaIn, Built, LoadStops, LoadSays}
 use Rattle.claims.specs.AgreeChecks.{Then, stops, goes, same, join, number-is, not-done}
 use Rattle.claims.specs.AgreePicture.{SamePicture, SameTiles, space-agrees}
-use Rattle.claims.specs.AgreeCreate.{Alike, alike-self, create-alike}
+use Rattle.claims.specs.AgreeCreate.{refuses-not-done, Alike, alike-self, create-alike}
 
 -- a fresh plane of the right size is fit
 pub fresh-fit : (t : List ℤ) → SizeRight t → Fit (freshTable (length t))
@@ -36,9 +36,8 @@ module _ (t : List ℤ) (s : SizeRight t) (bs : List ℕ) where
   built-alike m n u v e (Built.more {n = k} {u = w} b i c) (Built.more {n = l} {u = z} d j g) =
       let q : l ≡ k = omega arith in
       let h = built-alike k l w z (sym q) b d in
-      let g′ : CreateSays z (areaIn bs k) (savedAt bs k .label) v (accepted j) =
-      subst (λ n. CreateSays z (areaIn bs n) (savedAt bs n .label) v (accepted j)) q g in
-      create-alike w z (areaIn bs k) (savedAt bs k .label) u v (accepted i) (accepted j) h c g′ .done refl
+      let g′ : CreateDone z (areaIn bs k) (savedAt bs k .label) v j = subst (λ n. CreateDone z (areaIn bs n) (savedAt bs n .label) v j) q g in
+      create-alike w z (areaIn bs k) (savedAt bs k .label) u v (accepted i) (accepted j) h (CreateSays.done i c refl) (CreateSays.done j g′ refl) .done refl
 
   pub built-fit : (n : ℕ) (u : List ℤ) → Built (length t) bs n u → Fit u
   built-fit n u b = built-alike n n u u refl b b .left
@@ -49,36 +48,33 @@ module _ (t : List ℤ) (s : SizeRight t) (bs : List ℕ) where
     built : Built (length t) bs m before
     after : List ℤ
     at : ℕ
-    says : CreateSays before (areaIn bs m) (savedAt bs m .label) after (accepted at)
+    done : CreateDone before (areaIn bs m) (savedAt bs m .label) after at
 
   step-of : (n : ℕ) (u : List ℤ) → Built (length t) bs n u → (m : ℕ) → m < n → Step m
   step-of n u Built.none m h = absurd (omega arith)
   step-of n u (Built.more {n = k} {u = w} {u′ = z} b i c) m h = eq-cases m k
-      (λ e. subst Step (sym e) (record { before = w; built = b; after = u; at = i; says = c }))
+      (λ e. subst Step (sym e) (record { before = w; built = b; after = u; at = i; done = c }))
       (λ d. step-of k w b m (omega arith))
 
   -- a record at which the load is refused
   record Stop (n number : ℕ) : Type 0 where
     before : List ℤ
     built : Built (length t) bs n before
-    after : List ℤ
     value : ℕ
-    says : CreateSays before (areaIn bs n) (savedAt bs n .label) after (answered number value)
-    refused-by : number ≢ DONE
+    refuses : CreateRefuses before (areaIn bs n) (savedAt bs n .label) (answered number value)
 
   no-step : (n number : ℕ) → Stop n number → Step n → ⊥
   no-step n number p q =
       let l = built-alike n n (p .before) (q .before) refl (p .built) (q .built) in
-      let e = create-alike (p .before) (q .before) (areaIn bs n) (savedAt bs n .label) (p .after) (q .after) (answered number (p .value)) (accepted (q .at)) l
-      (p .says) (q .says) .number in
-      let d : number ≡ DONE = cc in
-      p .refused-by d
+      refuses-not-done (p .refuses)
+      (create-alike (p .before) (q .before) (areaIn bs n) (savedAt bs n .label) (p .before) (q .after) (answered number (p .value)) (accepted (q .at)) l
+      (CreateSays.refuses (p .refuses) refl) (CreateSays.done (q .at) (q .done) refl) .number)
 
   stop-number : (n c d : ℕ) → Stop n c → Stop n d → c ≡ d
   stop-number n c d p q =
       let l = built-alike n n (p .before) (q .before) refl (p .built) (q .built) in
-      let e = create-alike (p .before) (q .before) (areaIn bs n) (savedAt bs n .label) (p .after) (q .after) (answered c (p .value)) (answered d (q .value)) l
-      (p .says) (q .says) .number in
+      let e = create-alike (p .before) (q .before) (areaIn bs n) (savedAt bs n .label) (p .before) (q .before) (answered c (p .value)) (answered d (q .value)) l
+      (CreateSays.refuses (p .refuses) refl) (CreateSays.refuses (q .refuses) refl) .number in
       cc
 
   stop-before : (m n c d : ℕ) → Stop m c → Stop n d → n ≤ m
@@ -121,14 +117,14 @@ module _ (t : List ℤ) (bs : List ℕ) where
   load-order : (t′ : List ℤ) (a : Answer) → LoadSays t bs t′ a → Checked t′ a
   load-order t′ a (LoadSays.size n e w) = stops n (e, w)
   load-order t′ a (LoadSays.file s n e w) = goes (λ m. m s) (s, stops n (e, w))
-  load-order t′ a (LoadSays.record-refused s z n c i u u′ h b k d e w) =
+  load-order t′ a (LoadSays.stopped (LoadStops.stops s z n c i u h b k e) w) =
       goes (λ m. m s) (
         s,
         goes (λ m. m z) (λ r. stopped (record {
           n = n;
           number = c;
           below = h;
-          stop = record { before = u; built = b; after = u′; value = i; says = k; refused-by = d };
+          stop = record { before = u; built = b; value = i; refuses = k };
           is = e;
           fresh = w;
         })),
@@ -142,7 +138,7 @@ module _ (t : List ℤ) (bs : List ℕ) where
     ended-same : (s : SizeRight t) → Ended s u a → Ended s v b → LoadAgrees u v a b
     ended-same s (stopped p) (stopped q) =
         let (e, d) = stop-one t s bs (q .n) (p .n) (q .number) (p .number) (q .stop) (p .stop) in
-        refused-same (p .number) (p .n) (freshTable (length t)) (p .stop .refused-by) (p .is, p .fresh)
+        refused-same (p .number) (p .n) (freshTable (length t)) (λ e. refuses-not-done (p .stop .refuses) (ap pos e)) (p .is, p .fresh)
         (subst (λ n. b ≡ answered (p .number) n) e (subst (λ c. b ≡ answered c (q .n)) d (q .is)), q .fresh)
     ended-same s (stopped p) (done c e) = absurd (no-step t s bs (p .n) (p .number) (p .stop) (step-of t s bs (length bs / 20) v c (p .n) (p .below)))
     ended-same s (done c e) (stopped q) = absurd (no-step t s bs (q .n) (q .number) (q .stop) (step-of t s bs (length bs / 20) u c (q .n) (q .below)))

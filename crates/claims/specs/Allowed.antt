@@ -16,22 +16,11 @@ use Rattle.seek.specs.Neighbours.{sideOf, Neighbours}
 use Rattle.seek.specs.Search.{first-one, free-no-first}
 use Rattle.ushanderi.specs.Answers.{OCCUPIED, FULL, POINT, SPACE, answered, accepted, refused, nothing}
 use Rattle.ushanderi.specs.declared.answer.Answer.{Answer}
-use Rattle.ushanderi.specs.Promises.{Fit, FindSays, listed, NeighboursSays, SearchSays, EnumerateSays, drawn, Adds, Removes, Edited, CreateSays, DeleteSays}
+use Rattle.ushanderi.specs.Promises.{Fit, FindSays, listed, NeighboursSays, SearchSays, EnumerateSays, CreateRefuses, CreateSays, DeleteRefuses, DeleteDone, DeleteSays}
 use Rattle.claims.specs.AgreeChecks.{not-fit, fit-forms, fit-finds-one, finds-inside}
+use Rattle.claims.specs.AgreeCreate.{Created}
 use Rattle.claims.specs.AgreeReads.{find-agrees, neighbours-agrees, search-agrees, enumerate-agrees}
 use Rattle.claims.specs.HistoryExact.{never-room}
-
--- what an accepted create, and an accepted delete of record i, say
-pub record Created (t : List ℤ) (A : Area) (label : ℕ) (t′ : List ℤ) (a : Answer) : Type 0 where
-  pub at : ℕ
-  pub is : a ≡ accepted at
-  pub edited : Edited t t′
-  pub adds : Adds t t′ at (drawn A label)
-
-pub record Deleted (t : List ℤ) (i : ℕ) (t′ : List ℤ) (a : Answer) : Type 0 where
-  pub is : a ≡ accepted (num t i Words.LABEL - ZERO)
-  pub edited : Edited t t′
-  pub removes : Removes t t′ i
 
 module _ (t : List ℤ) (f : Fit t) where
   -- ---- reading
@@ -63,29 +52,29 @@ module _ (t : List ℤ) (f : Fit t) where
 
   module _ (A : Area) (label : ℕ) (r : RectRight A) (l : ZERO < label) (t′ : List ℤ) (a : Answer) where
     pub creates : FreeArea t A → solidsIn t < capacity (recordsOf t) → CreateSays t A label t′ a → Created t A label t′ a
-    creates h n (CreateSays.unfit u e) = absurd (not-fit t a u f)
-    creates h n (CreateSays.rect g m e q) = absurd (m r)
-    creates h n (CreateSays.label g s m e q) = absurd (omega arith)
-    creates h n (CreateSays.occupied g s m x y i p e q) = absurd (free-no-first t A x y i h p)
-    creates h n (CreateSays.full g s m o c e q) = absurd (omega arith)
-    creates h n (CreateSays.done g s m o c k d w e) = record { at = k; edited = d; adds = w; is = e }
+    creates h n (CreateSays.refuses (CreateRefuses.unfit u) e) = absurd (not-fit t a u f)
+    creates h n (CreateSays.refuses (CreateRefuses.rect g m e) q) = absurd (m r)
+    creates h n (CreateSays.refuses (CreateRefuses.label g s m e) q) = absurd (omega arith)
+    creates h n (CreateSays.refuses (CreateRefuses.occupied g s m x y i p e) q) = absurd (free-no-first t A x y i h p)
+    creates h n (CreateSays.refuses (CreateRefuses.full g s m o c e) q) = absurd (omega arith)
+    creates h n (CreateSays.done k d e) = record { at = k; done = d; is = e }
 
     pub is-full : FreeArea t A → solidsIn t ≡ capacity (recordsOf t) → CreateSays t A label t′ a → (a ≡ refused FULL) × (t′ ≡ t)
-    is-full h n (CreateSays.unfit u e) = absurd (not-fit t a u f)
-    is-full h n (CreateSays.rect g m e q) = absurd (m r)
-    is-full h n (CreateSays.label g s m e q) = absurd (omega arith)
-    is-full h n (CreateSays.occupied g s m x y i p e q) = absurd (free-no-first t A x y i h p)
-    is-full h n (CreateSays.full g s m o c e q) = (e, q)
-    is-full h n (CreateSays.done g s m o c k d w e) = absurd (omega arith)
+    is-full h n (CreateSays.refuses (CreateRefuses.unfit u) e) = absurd (not-fit t a u f)
+    is-full h n (CreateSays.refuses (CreateRefuses.rect g m e) q) = absurd (m r)
+    is-full h n (CreateSays.refuses (CreateRefuses.label g s m e) q) = absurd (omega arith)
+    is-full h n (CreateSays.refuses (CreateRefuses.occupied g s m x y i p e) q) = absurd (free-no-first t A x y i h p)
+    is-full h n (CreateSays.refuses (CreateRefuses.full g s m o c e) q) = (e, q)
+    is-full h n (CreateSays.done k d e) = absurd (omega (arith, d .allows .few))
 
     pub is-occupied : (x y i : ℕ) → First t A x y i → CreateSays t A label t′ a → (a ≡ answered OCCUPIED i) × (t′ ≡ t)
-    is-occupied x y i h (CreateSays.unfit u e) = absurd (not-fit t a u f)
-    is-occupied x y i h (CreateSays.rect g m e q) = absurd (m r)
-    is-occupied x y i h (CreateSays.label g s m e q) = absurd (omega arith)
-    is-occupied x y i h (CreateSays.occupied g s m x′ y′ i′ p e q) =
+    is-occupied x y i h (CreateSays.refuses (CreateRefuses.unfit u) e) = absurd (not-fit t a u f)
+    is-occupied x y i h (CreateSays.refuses (CreateRefuses.rect g m e) q) = absurd (m r)
+    is-occupied x y i h (CreateSays.refuses (CreateRefuses.label g s m e) q) = absurd (omega arith)
+    is-occupied x y i h (CreateSays.refuses (CreateRefuses.occupied g s m x′ y′ i′ p e) q) =
         (e ∙ ap (answered OCCUPIED) (first-one t (fit-forms t f) A x′ y′ i′ x y i p h .number), q)
-    is-occupied x y i h (CreateSays.full g s m o c e q) = absurd (free-no-first t A x y i o h)
-    is-occupied x y i h (CreateSays.done g s m o c k d w e) = absurd (free-no-first t A x y i o h)
+    is-occupied x y i h (CreateSays.refuses (CreateRefuses.full g s m o c e) q) = absurd (free-no-first t A x y i o h)
+    is-occupied x y i h (CreateSays.done k d e) = absurd (free-no-first t A x y i (d .allows .free) h)
 
   -- ---- delete
 
@@ -93,18 +82,18 @@ module _ (t : List ℤ) (f : Fit t) where
     one-kind : (i j : ℕ) → i ≡ j → SolidIn t i → num t j KIND ≡ Picture.SPACE → ⊥
     one-kind i j e s k = omega (arith, s .kind, ap (λ j. num t j KIND) e)
 
-    pub deletes : SolidIn t i → DeleteSays t x y t′ a → Deleted t i t′ a
-    deletes s (DeleteSays.unfit u e) = absurd (not-fit t a u f)
-    deletes s (DeleteSays.point g n e q) = absurd (n (finds-inside t f x y i h))
-    deletes s (DeleteSays.space g j k c e q) = absurd (one-kind i j (fit-finds-one t f x y i j h k) s c)
-    deletes s (DeleteSays.room g j k c n e q) = absurd (never-room t f n)
-    deletes s (DeleteSays.done g j k c n d m e) =
-        let q = fit-finds-one t f x y j i k h in
-        record { is = e ∙ ap (λ j. accepted (num t j Words.LABEL - ZERO)) q; edited = d; removes = subst (Removes t t′) q m }
+    pub deletes : SolidIn t i → DeleteSays t x y t′ a → (a ≡ accepted (num t i Words.LABEL - ZERO)) × DeleteDone t x y t′ i
+    deletes s (DeleteSays.refuses (DeleteRefuses.unfit u) e) = absurd (not-fit t a u f)
+    deletes s (DeleteSays.refuses (DeleteRefuses.point g n e) q) = absurd (n (finds-inside t f x y i h))
+    deletes s (DeleteSays.refuses (DeleteRefuses.space g j k c e) q) = absurd (one-kind i j (fit-finds-one t f x y i j h k) s c)
+    deletes s (DeleteSays.refuses (DeleteRefuses.room g j k c n e) q) = absurd (never-room t f n)
+    deletes s (DeleteSays.done j d e) =
+        let q = fit-finds-one t f x y j i (d .allows .finds) h in
+        (e ∙ ap (λ j. accepted (num t j Words.LABEL - ZERO)) q, subst (DeleteDone t x y t′) q d)
 
     pub is-space : num t i KIND ≡ Picture.SPACE → DeleteSays t x y t′ a → (a ≡ refused SPACE) × (t′ ≡ t)
-    is-space s (DeleteSays.unfit u e) = absurd (not-fit t a u f)
-    is-space s (DeleteSays.point g n e q) = absurd (n (finds-inside t f x y i h))
-    is-space s (DeleteSays.space g j k c e q) = (e, q)
-    is-space s (DeleteSays.room g j k c n e q) = absurd (one-kind j i (fit-finds-one t f x y j i k h) c s)
-    is-space s (DeleteSays.done g j k c n d m e) = absurd (one-kind j i (fit-finds-one t f x y j i k h) c s)
+    is-space s (DeleteSays.refuses (DeleteRefuses.unfit u) e) = absurd (not-fit t a u f)
+    is-space s (DeleteSays.refuses (DeleteRefuses.point g n e) q) = absurd (n (finds-inside t f x y i h))
+    is-space s (DeleteSays.refuses (DeleteRefuses.space g j k c e) q) = (e, q)
+    is-space s (DeleteSays.refuses (DeleteRefuses.room g j k c n e) q) = absurd (one-kind j i (fit-finds-one t f x y j i k h) c s)
+    is-space s (DeleteSays.done j d e) = absurd (one-kind j i (fit-finds-one t f x y j i (d .allows .finds) h) (d .allows .solid) s)

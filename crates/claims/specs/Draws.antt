@@ -13,7 +13,8 @@ use Rattle.table.specs.Sound.{SizeRight}
 use Rattle.table.specs.Fresh.{freshTable}
 use Rattle.table.specs.FreshSound.{OneTile, fresh-one}
 use Rattle.seek.specs.Meaning.{SolidIn, Area, FreeCell}
-use Rattle.ushanderi.specs.Promises.{Fit, Edited, Adds, Removes}
+use Rattle.ushanderi.specs.Edits.{Adds, Removes, Edited}
+use Rattle.ushanderi.specs.Promises.{Fit}
 use Rattle.claims.specs.AgreeChecks.{solid-used}
 use Rattle.claims.specs.AgreePicture.{Shows, SamePicture, shows, tile-once}
 use Rattle.claims.specs.AgreeCreate.{edited-fit}

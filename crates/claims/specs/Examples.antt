@@ -13,7 +13,8 @@ use Rattle.table.specs.Sound.{SizeRight, UsedIn, capacity, spacesIn}
 use Rattle.seek.specs.Meaning.{SolidIn, Area}
 use Rattle.ushanderi.specs.Answers.{DONE, POINT, OCCUPIED, FULL, SPACE, answered, accepted, refused, nothing}
 use Rattle.ushanderi.specs.declared.answer.Answer.{Answer}
-use Rattle.ushanderi.specs.Promises.{FreshSays, FindSays, listed, NeighboursSays, SearchSays, EnumerateSays, drawn, CreateSays, DeleteSays}
+use Rattle.ushanderi.specs.Edits.{drawn}
+use Rattle.ushanderi.specs.Promises.{FreshSays, FindSays, listed, NeighboursSays, SearchSays, EnumerateSays, CreateSays, DeleteSays}
 use Rattle.claims.specs.Draws.{Draws, areaOf}
 use Rattle.claims.specs.Tables.{space, area, neg, E, -E, A, B, C}
 

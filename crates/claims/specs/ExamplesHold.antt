@@ -23,16 +23,18 @@ use Rattle.seek.specs.Once.{times, times-here, times-other}
 use Rattle.seek.specs.Order.{directed-lists}
 use Rattle.ushanderi.specs.Answers.{DONE, FULL, accepted, refused}
 use Rattle.ushanderi.specs.declared.answer.Answer.{Answer}
-use Rattle.ushanderi.specs.Promises.{Fit, FindSays, FreshSays, listed, NeighboursSays, EnumerateSays, drawn, CreateSays, DeleteSays}
+use Rattle.ushanderi.specs.Edits.{drawn}
+use Rattle.ushanderi.specs.Promises.{Fit, FindSays, FreshSays, listed, NeighboursSays, EnumerateSays, CreateSays, DeleteSays}
 use Rattle.claims.specs.AgreeChecks.{fit-forms, fit-finds-one, solid-used}
 use Rattle.claims.specs.AgreePicture.{SamePicture, Shows, picture-count}
+use Rattle.claims.specs.AgreeCreate.{Created}
 use Rattle.claims.specs.History.{Among}
 use Rattle.claims.specs.Pictures.{same-spaces, renamed, renamed-twin}
 use Rattle.claims.specs.Renamed.{tiles-renamed, neighbours-renamed, directed-renamed}
 use Rattle.claims.specs.Draws.{Draws, areaOf, every-one, draws-same, draws-free, draws-more, draws-less, fresh-draws}
 use Rattle.claims.specs.Tests.{findsb, findsb-finds, listsb, rootb, rootsb-lists, hangsb, hangsb-lists, onTopb, onTopb-neighbours}
 use Rattle.claims.specs.Tables.{solid, space, area, neg, E, -E, A, B, C, D, W, ab, abcd, full, one-draws, ab-draws, abc-draws, abcd-draws, full-draws, ab-spaces, ab-solids, abcd-spaces, full-spaces}
-use Rattle.claims.specs.Allowed.{Created, find-is, find-point, search-free, search-met, neighbours-are, enumerated-are, creates, is-full, is-occupied, deletes, is-space}
+use Rattle.claims.specs.Allowed.{find-is, find-point, search-free, search-met, neighbours-are, enumerated-are, creates, is-full, is-occupied, deletes, is-space}
 use Rattle.claims.specs.Examples
 use Rattle.claims.specs.Examples.{Answers, Lends, Example, holds, AllHold, end, _and_, ABC, bottomStrip, leftOfA, gap, rightOfB, strip10to15, leftOfC, rightOfC, topStrip, examples}
 
@@ -265,8 +267,8 @@ enumerated-row t d out out′ l a s =
 created-by : (t : List ℤ) (S : List Tile) (R : Area) (label : ℕ) (t′ : List ℤ) (a : Answer) → Draws t S → Created t R label t′ a
     → Answers t′ DONE (drawn R label) a × Draws t′ (S ++ drawn R label ∷ [])
 created-by t S R label t′ a d c =
-    let w = c .adds in
-    (record { at = c .at; is = c .is; used = solid-used t′ (c .at) (w .new); tile = w .is }, draws-more t t′ S (c .at) (drawn R label) d (c .edited) w)
+    let w = c .done .adds in
+    (record { at = c .at; is = c .is; used = solid-used t′ (c .at) (w .new); tile = w .is }, draws-more t t′ S (c .at) (drawn R label) d (c .done .edited) w)
 
 created-gap : holds (Example.created ABC (area (pos 10) (pos 0) (pos 20) (pos 10)) 4 7)
 unfolding ruler gap-area
@@ -281,10 +283,10 @@ unfolding abc num ruler findsb
 deleted-C t d t′ a s =
     let (j, h, e) = held ABC abc abc-draws t d (ruler (pos 12)) (ruler (pos 17)) 2 (findsb-finds abc _ _ 2 tt) in
     let o : SolidIn t j = record { below = h .used .below; kind = ap (λ v. v .kind) e } in
-    let w = deletes t (d .fit) (ruler (pos 12)) (ruler (pos 17)) j h t′ a o s in
+    let (q, w) = deletes t (d .fit) (ruler (pos 12)) (ruler (pos 17)) j h t′ a o s in
     let k : num t j Words.LABEL ≡ ruler (pos 3) = ap (λ v. v .label) e in
     let g = draws-less t t′ (A ∷ B ∷ []) j C d C-other (w .edited) (w .removes) o e in
-    (w .is ∙ ap accepted (omega arith), record { draws = g; spaces = spaces-by (A ∷ B ∷ []) ab ab-draws t′ g 5 ab-spaces })
+    (q ∙ ap accepted (omega arith), record { draws = g; spaces = spaces-by (A ∷ B ∷ []) ab ab-draws t′ g 5 ab-spaces })
   where
     C-other : Among (A ∷ B ∷ []) C → ⊥
     C-other m = every-one (λ v. v .label ≡ ruler (pos 3) → ⊥) (A ∷ B ∷ []) C (λ e. omega arith, (λ e. omega arith, tt)) m refl
@@ -334,7 +336,7 @@ after-A t t₀ t₁ a₀ a₁ z f s =
     let d = fresh-done t t₀ a₀ z f .1 in
     let c = first-done t₀ (areaOf A) (A .label) d (omega arith) (omega arith) t₁ a₁ s in
     let (w, e) = created-by t₀ [] (areaOf A) (A .label) t₁ a₁ d c in
-    record { answers = w; draws = e; records = ap (λ n. n / WIDTH) (c .edited .size ∙ fresh-size t t₀ a₀ f) }
+    record { answers = w; draws = e; records = ap (λ n. n / WIDTH) (c .done .edited .size ∙ fresh-size t t₀ a₀ f) }
 
 -- and B beside it, and C
 pub second-done : (t : List ℤ) → Draws t (A ∷ []) → 2 ≤ capacity (recordsOf t) → (t′ : List ℤ) (a : Answer) → CreateSays t (areaOf B) (B .label) t′ a
@@ -360,7 +362,7 @@ start-abc t t₀ t₁ t₂ t₃ a₀ a₁ a₂ a₃ z n f s₁ s₂ s₃ =
     let r = o .records in
     let c₂ = second-done t₁ (o .draws) (omega arith) t₂ a₂ s₂ in
     let d₂ = created-by t₁ (A ∷ []) (areaOf B) (B .label) t₂ a₂ (o .draws) c₂ .1 in
-    let c₃ = third-done t₂ d₂ (omega (arith, c₂ .edited .size)) t₃ a₃ s₃ in
+    let c₃ = third-done t₂ d₂ (omega (arith, c₂ .done .edited .size)) t₃ a₃ s₃ in
     created-by t₂ (A ∷ B ∷ []) (areaOf C) (C .label) t₃ a₃ d₂ c₃ .1
 
 created-whole : holds (Example.created [] (area -E -E E E) 1 0)
@@ -384,9 +386,9 @@ module _ (t t′ : List ℤ) (d : Draws t (A ∷ [])) (l : recordsOf t ≡ 20) (
   deleted-A s =
       let (j, h, e) = held (A ∷ []) one one-draws t d (ruler (pos 0)) (ruler (pos 0)) 0 (findsb-finds one _ _ 0 tt) in
       let o : SolidIn t j = record { below = h .used .below; kind = ap (λ v. v .kind) e } in
-      let w = deletes t (d .fit) (ruler (pos 0)) (ruler (pos 0)) j h t′ a o s in
+      let (q, w) = deletes t (d .fit) (ruler (pos 0)) (ruler (pos 0)) j h t′ a o s in
       let k : num t j Words.LABEL ≡ ruler (pos 1) = ap (λ v. v .label) e in
-      (w .is ∙ ap accepted (omega arith), draws-less t t′ [] j A d List·Memᴰ·not-nil (w .edited) (w .removes) o e)
+      (q ∙ ap accepted (omega arith), draws-less t t′ [] j A d List·Memᴰ·not-nil (w .edited) (w .removes) o e)
 
 refilled-B : holds (Example.refilled A B (pos 0) (pos 0) 1)
 unfolding ruler

@@ -14,9 +14,10 @@ use Rattle.table.specs.Words.{LEFT, BOTTOM, RIGHT, TOP, KIND, recordsOf, num, t
 use Rattle.table.specs.Sound.{SizeRight, Sound, SoundFor, UsedIn, Stitched, capacity, solidsIn, spacesIn}
 use Rattle.seek.specs.Meaning.{Area}
 use Rattle.layout.specs.Bytes.{savedAt}
-use Rattle.ushanderi.specs.Answers.{DONE, SIZE, RECT, FULL, FILE}
+use Rattle.ushanderi.specs.Answers.{DONE, SIZE, FILE}
 use Rattle.ushanderi.specs.declared.answer.Answer.{Answer}
-use Rattle.ushanderi.specs.Promises.{FreshSays, CheckSays, ViewSays, FindSays, NeighboursSays, SearchSays, EnumerateSays, drawn, CreateSays, DeleteSays, SaveSays, areaIn, LoadSays}
+use Rattle.ushanderi.specs.Edits.{drawn}
+use Rattle.ushanderi.specs.Promises.{FreshSays, CheckSays, ViewSays, FindSays, NeighboursSays, SearchSays, EnumerateSays, CreateRefuses, CreateDone, DeleteRefuses, DeleteDone, SaveSays, areaIn, LoadStops, LoadSays}
 use Rattle.claims.specs.AgreePicture.{Shows, Tiles}
 
 -- ---- the account
@@ -52,28 +53,23 @@ filed bs (suc n) = drawn (areaIn bs n) (savedAt bs n .label) ∷ filed bs n
 
 -- ---- histories
 
--- a load refused with 4 to 7
-pub record AtRecord (a : Answer) : Type 0 where
-  pub number : ℕ
-  pub is : a .number ≡ pos number
-  pub from : RECT ≤ number
-  pub to : number ≤ FULL
-
--- The calls that a history begins with, or begins anew: no solid after a fresh call or a load refused with 4 to 7, the records of a load that ends well.
+-- The calls that a history begins with, or begins anew: no solid after a fresh call or a load that stops at a refused create, the records of a load that
+-- ends well.
 pub data Begins (t t′ : List ℤ) : List Tile → Type 0 where
   fresh : {a : Answer} → FreshSays t t′ a → a .number ≡ pos DONE → Begins t t′ []
   load : {bs : List ℕ} {a : Answer} → LoadSays t bs t′ a → a .number ≡ pos DONE → Begins t t′ (filed bs (length bs / 20))
-  load-refused : {bs : List ℕ} {a : Answer} → LoadSays t bs t′ a → AtRecord a → Begins t t′ []
+  load-refused : {bs : List ℕ} {a : Answer} → LoadSays t bs t′ a → LoadStops t bs a → Begins t t′ []
 
 -- One call: the table and the account before it and after it. That a call which only reads leaves the table is said here, since its promise names one table.
+-- A refused create or delete leaves it by its promise.
 pub data Step (t : List ℤ) (S : List Tile) : List ℤ → List Tile → Type 0 where
   begins : {t′ : List ℤ} {S′ : List Tile} → Begins t t′ S′ → Step t S t′ S′
   fresh-refused : {t′ : List ℤ} {a : Answer} → FreshSays t t′ a → a .number ≢ pos DONE → Step t S t′ S
   load-unread : {bs : List ℕ} {t′ : List ℤ} {a : Answer} → LoadSays t bs t′ a → (a .number ≡ pos SIZE) ⊎ (a .number ≡ pos FILE) → Step t S t′ S
-  create : {A : Area} {label : ℕ} {t′ : List ℤ} {a : Answer} → CreateSays t A label t′ a → a .number ≡ pos DONE → Step t S t′ (drawn A label ∷ S)
-  create-refused : {A : Area} {label : ℕ} {t′ : List ℤ} {a : Answer} → CreateSays t A label t′ a → a .number ≢ pos DONE → Step t S t′ S
-  delete : {x y : ℕ} {t′ : List ℤ} {a : Answer} → DeleteSays t x y t′ a → a .number ≡ pos DONE → Step t S t′ (without x y S)
-  delete-refused : {x y : ℕ} {t′ : List ℤ} {a : Answer} → DeleteSays t x y t′ a → a .number ≢ pos DONE → Step t S t′ S
+  create : {A : Area} {label : ℕ} {t′ : List ℤ} {k : ℕ} → CreateDone t A label t′ k → Step t S t′ (drawn A label ∷ S)
+  create-refused : {A : Area} {label : ℕ} {a : Answer} → CreateRefuses t A label a → Step t S t S
+  delete : {x y : ℕ} {t′ : List ℤ} {i : ℕ} → DeleteDone t x y t′ i → Step t S t′ (without x y S)
+  delete-refused : {x y : ℕ} {a : Answer} → DeleteRefuses t x y a → Step t S t S
   check : {a : Answer} → CheckSays t a → Step t S t S
   view : {index : ℤ} {part : List ℤ} → ViewSays t index part → Step t S t S
   find : {x y : ℕ} {a : Answer} → FindSays t x y a → Step t S t S

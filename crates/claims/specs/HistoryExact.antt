@@ -20,7 +20,8 @@ use Rattle.table.specs.Forms.{sound-three}
 use Rattle.seek.specs.Meaning.{SolidIn, Area, RectRight, InArea, FreeArea}
 use Rattle.ushanderi.specs.Answers.{DONE, OCCUPIED, FULL, ROOM}
 use Rattle.ushanderi.specs.declared.answer.Answer.{Answer}
-use Rattle.ushanderi.specs.Promises.{Fit, CreateSays, NoRoom, DeleteSays, Unfit}
+use Rattle.ushanderi.specs.Edits.{NoRoom}
+use Rattle.ushanderi.specs.Promises.{Unfit, Fit, CreateRefuses, CreateSays, DeleteRefuses, DeleteSays}
 use Rattle.claims.specs.AgreeChecks.{not-fit, fit-forms, number-is, number-one, not-done}
 use Rattle.claims.specs.AgreePicture.{shows}
 use Rattle.claims.specs.History.{Among, History, Kept}
@@ -55,10 +56,10 @@ free-apart t A f o = f (o .shares .x) (o .shares .y) (o .shares .inside) (o .at)
 
 pub create-exact : (t : List ℤ) (A : Area) (label : ℕ) (t′ : List ℤ) (a : Answer) → Fit t → RectRight A → ZERO < label
     → CreateSays t A label t′ a → Exact t A a
-create-exact t A label t′ a f r l (CreateSays.unfit n w) = absurd (not-fit t a n f)
-create-exact t A label t′ a f r l (CreateSays.rect g n e w) = absurd (n r)
-create-exact t A label t′ a f r l (CreateSays.label g s m e w) = absurd (omega arith)
-create-exact t A label t′ a f r l (CreateSays.occupied g s m x y i h e w) =
+create-exact t A label t′ a f r l (CreateSays.refuses (CreateRefuses.unfit n) w) = absurd (not-fit t a n f)
+create-exact t A label t′ a f r l (CreateSays.refuses (CreateRefuses.rect g n e) w) = absurd (n r)
+create-exact t A label t′ a f r l (CreateSays.refuses (CreateRefuses.label g s m e) w) = absurd (omega arith)
+create-exact t A label t′ a f r l (CreateSays.refuses (CreateRefuses.occupied g s m x y i h e) w) =
     let o : Overlaps t A = record { at = i; solid = h .solid; shares = record { x = x; y = y; inside = h .inside; has = h .has } } in
     record {
       refused = (λ n. inl o, λ h. not-done e (λ e. omega arith));
@@ -66,18 +67,19 @@ create-exact t A label t′ a f r l (CreateSays.occupied g s m x y i h e w) =
       full = (λ n. absurd (omega (arith, number-one e n)), λ p. absurd (p .0 o));
       which = λ n. inl (number-is e);
     }
-create-exact t A label t′ a f r l (CreateSays.full g s m h k e w) =
+create-exact t A label t′ a f r l (CreateSays.refuses (CreateRefuses.full g s m h k e) w) =
     record {
       refused = (λ n. inr k, λ h. not-done e (λ e. omega arith));
       occupied = (λ n. absurd (omega (arith, number-one e n)), λ o. absurd (free-apart t A h o));
       full = (λ n. (free-apart t A h, k), λ p. number-is e);
       which = λ n. inr (number-is e);
     }
-create-exact t A label t′ a f r l (CreateSays.done g s m h k i d b e) =
+create-exact t A label t′ a f r l (CreateSays.done i d e) =
+    let b = d .allows in
     record {
-      refused = (λ n. absurd (n (number-is e)), λ o. absurd (⊎-elim (free-apart t A h) (λ q. omega arith) o));
-      occupied = (λ n. absurd (omega (arith, number-one e n)), λ o. absurd (free-apart t A h o));
-      full = (λ n. absurd (omega (arith, number-one e n)), λ p. absurd (omega (arith, p .1)));
+      refused = (λ n. absurd (n (number-is e)), λ o. absurd (⊎-elim (free-apart t A (b .free)) (λ q. omega (arith, b .few)) o));
+      occupied = (λ n. absurd (omega (arith, number-one e n)), λ o. absurd (free-apart t A (b .free) o));
+      full = (λ n. absurd (omega (arith, number-one e n)), λ p. absurd (omega (arith, b .few, p .1)));
       which = λ n. absurd (n (number-is e));
     }
 
@@ -143,9 +145,9 @@ never-room t f n =
 
 -- so no delete answers ROOM
 pub delete-never-room : (t : List ℤ) (x y : ℕ) (t′ : List ℤ) (a : Answer) → DeleteSays t x y t′ a → a .number ≢ pos ROOM
-delete-never-room t x y t′ a (DeleteSays.unfit (Unfit.size n e) w) h = omega (arith, number-one e h)
-delete-never-room t x y t′ a (DeleteSays.unfit (Unfit.unsound s n e) w) h = omega (arith, number-one e h)
-delete-never-room t x y t′ a (DeleteSays.point f n e w) h = omega (arith, number-one e h)
-delete-never-room t x y t′ a (DeleteSays.space f i m k e w) h = omega (arith, number-one e h)
-delete-never-room t x y t′ a (DeleteSays.room f i m s n e w) h = never-room t f n
-delete-never-room t x y t′ a (DeleteSays.done f i m s n d r e) h = omega (arith, number-one e h)
+delete-never-room t x y t′ a (DeleteSays.refuses (DeleteRefuses.unfit (Unfit.size n e)) w) h = omega (arith, number-one e h)
+delete-never-room t x y t′ a (DeleteSays.refuses (DeleteRefuses.unfit (Unfit.unsound s n e)) w) h = omega (arith, number-one e h)
+delete-never-room t x y t′ a (DeleteSays.refuses (DeleteRefuses.point f n e) w) h = omega (arith, number-one e h)
+delete-never-room t x y t′ a (DeleteSays.refuses (DeleteRefuses.space f i m k e) w) h = omega (arith, number-one e h)
+delete-never-room t x y t′ a (DeleteSays.refuses (DeleteRefuses.room f i m s n e) w) h = never-room t f n
+delete-never-room t x y t′ a (DeleteSays.done i d e) h = omega (arith, number-one e h)

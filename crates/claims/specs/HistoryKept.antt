@@ -18,15 +18,15 @@ use Rattle.table.specs.FreshSound.{OneTile, fresh-one}
 use Rattle.table.specs.Forms.{sound-three}
 use Rattle.seek.specs.Meaning.{SolidIn, Area}
 use Rattle.layout.specs.Bytes.{savedAt}
-use Rattle.ushanderi.specs.Answers.{accepted}
-use Rattle.ushanderi.specs.Promises.{Fit, drawn, CreateSays, areaIn, Built}
+use Rattle.ushanderi.specs.Edits.{drawn}
+use Rattle.ushanderi.specs.Promises.{Fit, CreateDone, DeleteDone, areaIn, Built}
 use Rattle.claims.specs.AgreeChecks.{fit-forms, fit-finds-one, solid-used}
 use Rattle.claims.specs.AgreePicture.{Shows, shows, SameTiles, space-agrees, ownSolids, in-solid, solid-in, own-apart, own-drawn}
 use Rattle.claims.specs.AgreeCreate.{edited-fit}
 use Rattle.claims.specs.AgreeLoad.{fresh-fit}
 use Rattle.claims.specs.History.{Among, Distinct, without, filed, Begins, Step, History, blank, setOf, spaceTile, Kept}
 use Rattle.claims.specs.HistoryAccount.{among-without, without-among, distinct-without, at-among, among-at, distinct-at, set-number}
-use Rattle.claims.specs.HistoryCalls.{fresh-done, fresh-left, Drew, create-done, create-left, Took, delete-done, delete-left, load-done, load-fresh, load-left}
+use Rattle.claims.specs.HistoryCalls.{fresh-done, fresh-left, load-done, load-fresh, load-left}
 
 -- what the steps carry on
 record Shown (t : List ℤ) (S : List Tile) : Type 0 where
@@ -53,20 +53,20 @@ fresh-shown t s =
 
 -- ---- create
 
-module _ (t : List ℤ) (S : List Tile) (k : Shown t S) (A : Area) (label : ℕ) (t′ : List ℤ) (d : Drew t A label t′) where
+module _ (t : List ℤ) (S : List Tile) (k : Shown t S) (A : Area) (label : ℕ) (t′ : List ℤ) (at : ℕ) (d : CreateDone t A label t′ at) where
   -- the rectangle's own corner is free
   not-there : Among S (drawn A label) → ⊥
   not-there m =
       let h = k .solids (drawn A label) .0 m in
-      let r = d .rect in
+      let r = d .allows .rect in
       let c : Has (drawn A label) (A .left) (A .bottom) = record { left = omega arith; right = r .wide; bottom = omega arith; top = r .high } in
-      d .free (A .left) (A .bottom) (omega arith) (h .at) (h .solid) (subst (λ v. Has v (A .left) (A .bottom)) (sym (h .is)) c)
+      d .allows .free (A .left) (A .bottom) (omega arith) (h .at) (h .solid) (subst (λ v. Has v (A .left) (A .bottom)) (sym (h .is)) c)
 
   old-shown : (v : Tile) → Shows t v → Shows t′ v
   old-shown v h = let (s, e) = d .adds .kept (h .at) (h .solid) in record { at = h .at; solid = s; is = e ∙ h .is }
 
   new-among : (v : Tile) → Shows t′ v → Among (drawn A label ∷ S) v
-  new-among v h = eq-cases (h .at) (d .at)
+  new-among v h = eq-cases (h .at) at
       (λ e. List·Memᴰ·head (sym (h .is) ∙ ap (tileOf t′) e ∙ d .adds .is))
       (λ n.
       let o = d .adds .only (h .at) (h .solid) n in
@@ -77,7 +77,7 @@ module _ (t : List ℤ) (S : List Tile) (k : Shown t S) (A : Area) (label : ℕ)
       record {
         fit = edited-fit t t′ (k .fit) (d .edited);
         solids = λ v. (
-          λ m. ⊎-elim (λ e. record { at = d .at; solid = d .adds .new; is = d .adds .is ∙ sym e }) (λ n. old-shown v (k .solids v .0 n)) (List·Memᴰ·cases-cons m),
+          λ m. ⊎-elim (λ e. record { at = at; solid = d .adds .new; is = d .adds .is ∙ sym e }) (λ n. old-shown v (k .solids v .0 n)) (List·Memᴰ·cases-cons m),
           new-among v,
         );
         once = Distinct.more not-there (k .once);
@@ -85,14 +85,14 @@ module _ (t : List ℤ) (S : List Tile) (k : Shown t S) (A : Area) (label : ℕ)
 
 -- ---- delete
 
-module _ (t : List ℤ) (S : List Tile) (k : Shown t S) (x y : ℕ) (t′ : List ℤ) (d : Took t x y t′) where
+module _ (t : List ℤ) (S : List Tile) (k : Shown t S) (x y : ℕ) (t′ : List ℤ) (at : ℕ) (d : DeleteDone t x y t′ at) where
   -- only the solid taken holds the cell
-  left-free : (i : ℕ) → SolidIn t i → i ≢ d .at → Has (tileOf t i) x y → ⊥
-  left-free i s n h = n (fit-finds-one t (k .fit) x y i (d .at) (record { used = solid-used t i s; has = h }) (d .finds))
+  left-free : (i : ℕ) → SolidIn t i → i ≢ at → Has (tileOf t i) x y → ⊥
+  left-free i s n h = n (fit-finds-one t (k .fit) x y i at (record { used = solid-used t i s; has = h }) (d .allows .finds))
 
   left-shown : (v : Tile) → Shows t v → (Has v x y → ⊥) → Shows t′ v
   left-shown v h n =
-      let (s, e) = d .removes .kept (h .at) (h .solid) (λ e. n (subst (λ v. Has v x y) (ap (tileOf t) (sym e) ∙ h .is) (d .finds .has))) in
+      let (s, e) = d .removes .kept (h .at) (h .solid) (λ e. n (subst (λ v. Has v x y) (ap (tileOf t) (sym e) ∙ h .is) (d .allows .finds .has))) in
       record { at = h .at; solid = s; is = e ∙ h .is }
 
   left-among : (v : Tile) → Shows t′ v → Among (without x y S) v
@@ -119,10 +119,8 @@ built-shown t s bs m (suc n) u e Built.none = absurd (omega arith)
 built-shown t s bs m zero u e (Built.more {n = k} b i c) = absurd (omega arith)
 built-shown t s bs m (suc n) u e (Built.more {n = k} {u = w} b i c) =
     let q : k ≡ n = omega arith in
-    let c′ : CreateSays w (areaIn bs n) (savedAt bs n .label) u (accepted i) =
-    subst (λ n. CreateSays w (areaIn bs n) (savedAt bs n .label) u (accepted i)) q c in
-    create-shown w (filed bs n) (built-shown t s bs k n w q b) (areaIn bs n) (savedAt bs n .label) u
-    (create-done w (areaIn bs n) (savedAt bs n .label) u (accepted i) c′ refl)
+    create-shown w (filed bs n) (built-shown t s bs k n w q b) (areaIn bs n) (savedAt bs n .label) u i
+    (subst (λ n. CreateDone w (areaIn bs n) (savedAt bs n .label) u i) q c)
 
 -- ---- every history
 
@@ -142,10 +140,10 @@ step-shown : (t t′ : List ℤ) (S S′ : List Tile) → Shown t S → Step t S
 step-shown t t′ S S′ k (Step.begins b) = begins-shown t t′ S′ b
 step-shown t t′ S S′ k (Step.fresh-refused {a = a} c h) = same-shown t t′ S k (fresh-left t t′ a c h)
 step-shown t t′ S S′ k (Step.load-unread {bs = bs} {a = a} c h) = same-shown t t′ S k (load-left t bs t′ a c h)
-step-shown t t′ S S′ k (Step.create {A = A} {label = l} {a = a} c h) = create-shown t S k A l t′ (create-done t A l t′ a c h)
-step-shown t t′ S S′ k (Step.create-refused {A = A} {label = l} {a = a} c h) = same-shown t t′ S k (create-left t A l t′ a c h)
-step-shown t t′ S S′ k (Step.delete {x = x} {y = y} {a = a} c h) = delete-shown t S k x y t′ (delete-done t x y t′ a c h)
-step-shown t t′ S S′ k (Step.delete-refused {x = x} {y = y} {a = a} c h) = same-shown t t′ S k (delete-left t x y t′ a c h)
+step-shown t t′ S S′ k (Step.create {A = A} {label = l} {k = i} d) = create-shown t S k A l t′ i d
+step-shown t t′ S S′ k (Step.create-refused r) = k
+step-shown t t′ S S′ k (Step.delete {x = x} {y = y} {i = i} d) = delete-shown t S k x y t′ i d
+step-shown t t′ S S′ k (Step.delete-refused r) = k
 step-shown t t′ S S′ k (Step.check c) = k
 step-shown t t′ S S′ k (Step.view c) = k
 step-shown t t′ S S′ k (Step.find c) = k

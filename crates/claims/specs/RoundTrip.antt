@@ -24,17 +24,18 @@ use Rattle.layout.specs.BytesLaws.{file-length, saved-file}
 use Rattle.layout.specs.Order.{Comes, savedOf, Saves}
 use Rattle.layout.specs.OneOrder.{comes-asym, order-length}
 use Rattle.layout.specs.RoundTrip.{LabelsFit, solids-fit}
-use Rattle.ushanderi.specs.Answers.{DONE, SHORT, answered, accepted}
+use Rattle.ushanderi.specs.Answers.{SHORT, answered, accepted}
 use Rattle.ushanderi.specs.declared.answer.Answer.{Answer}
-use Rattle.ushanderi.specs.Promises.{Fit, drawn, CreateSays, SaveSays, areaIn, Built, LoadSays}
-use Rattle.claims.specs.AgreeChecks.{fit-forms, solid-used, not-fit, number-is, not-done, number-one, unfit-not-done}
+use Rattle.ushanderi.specs.Edits.{drawn}
+use Rattle.ushanderi.specs.Promises.{Fit, CreateRefuses, CreateDone, CreateSays, SaveSays, areaIn, Built, LoadStops, LoadSays}
+use Rattle.claims.specs.AgreeChecks.{fit-forms, solid-used, not-fit, number-is, not-done, unfit-not-done}
 use Rattle.claims.specs.AgreePicture.{Shows, SamePicture, own-apart, solid-in, in-solid, tile-once}
-use Rattle.claims.specs.AgreeCreate.{edited-fit}
+use Rattle.claims.specs.AgreeCreate.{Created, refuses-not-done, edited-fit}
 use Rattle.claims.specs.AgreeReads.{save-agrees}
 use Rattle.claims.specs.Pictures.{Twins, solid-by, renamed, renamed-twin}
 use Rattle.claims.specs.Renamed.{lists-renamed}
 use Rattle.claims.specs.Draws.{Draws, areaOf, fresh-draws}
-use Rattle.claims.specs.Allowed.{Created, creates}
+use Rattle.claims.specs.Allowed.{creates}
 
 -- every entry of a lent table is a 32-bit word
 abbrev pub Words : List ℤ → Type 0
@@ -47,9 +48,6 @@ words-labels t w i s = ruler-fits (getD t (WIDTH * i + LABEL) (pos 0)) (w (WIDTH
 -- what is saved of a solid, as the rectangle of a create
 abbrev areaBy : Saved → Area
 areaBy s = record { left = s .left; bottom = s .bottom; right = s .right; top = s .top }
-
-created-done : (t : List ℤ) (R : Area) (label : ℕ) (t′ : List ℤ) (number value : ℕ) → Created t R label t′ (answered number value) → number ≡ DONE
-created-done t R label t′ number value c = number-one {value = value} refl (number-is (c .is))
 
 one-value : (v w : ℕ) → accepted v ≡ accepted w → v ≡ w
 one-value v w e = let z : pos v ≡ pos w = ap (λ a. a .value) e in cc
@@ -133,37 +131,30 @@ module _ (t : List ℤ) (f : Fit t) (fits : LabelsFit t) (ks : List ℕ) (l : Li
       creates w (o .fit) (areaOf (nth n)) (nth n .label) (omega (arith, m)) (m .label) w′ a (next-free n w h o)
       (omega (arith, few n w o, order-length t ks l, o .size)) c
 
-  loaded-more : (n : ℕ) (w w′ : List ℤ) (a : Answer) → n < length ks → Loaded n w → Created w (areaOf (nth n)) (nth n .label) w′ a → Loaded (n + 1) w′
-  loaded-more n w w′ a h o c = record {
+  loaded-more : (n : ℕ) (w w′ : List ℤ) (k : ℕ) → n < length ks → Loaded n w → CreateDone w (areaOf (nth n)) (nth n .label) w′ k → Loaded (n + 1) w′
+  loaded-more n w w′ k h o c = record {
     fit = edited-fit w w′ (o .fit) (c .edited);
     size = c .edited .size ∙ o .size;
     each = each;
     all = λ m b. lt-cases m n
-        (λ k. let s = o .all m k in let (q, e) = c .adds .kept (s .at) (s .solid) in record { at = s .at; solid = q; is = e ∙ s .is })
-        (λ k. let e : m ≡ n = omega arith in subst (λ m. Shows w′ (nth m)) (sym e) (record { at = c .at; solid = c .adds .new; is = c .adds .is ∙ is-nth }));
+        (λ j. let s = o .all m j in let (q, e) = c .adds .kept (s .at) (s .solid) in record { at = s .at; solid = q; is = e ∙ s .is })
+        (λ j. let e : m ≡ n = omega arith in subst (λ m. Shows w′ (nth m)) (sym e) (record { at = k; solid = c .adds .new; is = c .adds .is ∙ is-nth }));
   }
     where
       is-nth : drawn (areaOf (nth n)) (nth n .label) ≡ nth n
       is-nth = tile-ext (drawn (areaOf (nth n)) (nth n .label)) (nth n) (record { left = refl; bottom = refl; right = refl; top = refl }) (sym (nth-solid n h .kind)) refl
 
       each : (i : ℕ) → SolidIn w′ i → (m : ℕ) × (m < n + 1) × (tileOf w′ i ≡ nth m)
-      each i s = eq-cases i (c .at)
+      each i s = eq-cases i k
           (λ e. (n, omega arith, subst (λ j. tileOf w′ j ≡ nth n) (sym e) (c .adds .is ∙ is-nth)))
           (λ d. let q = c .adds .only i s d in let (m, b, e) = o .each i q in (m, omega arith, c .adds .kept i q .1 ∙ e))
-
-  -- the file's own create is that of the nth
-  abbrev FileCreate : ℕ → List ℤ → List ℤ → Answer → Type 0
-  FileCreate n w w′ a = CreateSays w (areaIn file n) (savedAt file n .label) w′ a
-
-  file-create : (n : ℕ) (w w′ : List ℤ) (a : Answer) → n < length ks → FileCreate n w w′ a → CreateSays w (areaOf (nth n)) (nth n .label) w′ a
-  file-create n w w′ a h c = let e = says n h in subst₂ (λ R label. CreateSays w R label w′ a) (e .area) (e .label) c
 
   built-loaded : (n : ℕ) (w : List ℤ) → Built (length u) file n w → n ≤ length ks → Loaded n w
   built-loaded n w Built.none h = loaded-none
   built-loaded n w (Built.more {n = m} {u = v} b k c) h =
-      let o = built-loaded m v b (omega arith) in
       let q : m < length ks = omega arith in
-      loaded-more m v w (accepted k) q o (next-created m v w (accepted k) q o (file-create m v w (accepted k) q c))
+      let e = says m q in
+      loaded-more m v w k q (built-loaded m v b (omega arith)) (subst₂ (λ R label. CreateDone v R label w k) (e .area) (e .label) c)
 
   -- ---- what the load answers
 
@@ -183,10 +174,12 @@ module _ (t : List ℤ) (f : Fit t) (fits : LabelsFit t) (ks : List ℕ) (l : Li
   loads : (u′ : List ℤ) (b : Answer) → LoadSays u file u′ b → (b ≡ accepted (length ks)) × Loaded (length ks) u′
   loads u′ b (LoadSays.size n e w) = absurd (n z)
   loads u′ b (LoadSays.file s n e w) = absurd (n (omega (arith, file-is)))
-  loads u′ b (LoadSays.record-refused s r n number value w w′ h d c m e q) =
+  loads u′ b (LoadSays.stopped (LoadStops.stops s r n number value w h d c e) q) =
       let k : n < length ks = omega (arith, file-is) in
-      let g = next-created n w w′ (answered number value) k (built-loaded n w d (omega arith)) (file-create n w w′ (answered number value) k c) in
-      absurd (m (created-done w (areaOf (nth n)) (nth n .label) w′ number value g))
+      let v = says n k in
+      let c′ = subst₂ (λ R label. CreateRefuses w R label (answered number value)) (v .area) (v .label) c in
+      let g = next-created n w w (answered number value) k (built-loaded n w d (omega arith)) (CreateSays.refuses c′ refl) in
+      absurd (refuses-not-done c′ (number-is (g .is)))
   loads u′ b (LoadSays.done s r d e) =
       let k : length file / 20 ≡ length ks = omega (arith, file-is) in
       (e ∙ ap accepted k, built-loaded (length ks) u′ (subst (λ n. Built (length u) file n u′) k d) (omega arith))

@@ -20,12 +20,13 @@ use Rattle.ushanderi.specs.Promises.{Unfit, Fit, FreshSays, CheckSays, FindSays
 use Rattle.claims.specs.AgreeChecks.{fit-forms, not-fit, number-is}
 use Rattle.claims.specs.AgreePicture.{Shows}
 use Rattle.claims.specs.AgreeReads.{check-agrees, enumerate-agrees}
+use Rattle.claims.specs.AgreeCreate.{Created, create-done}
+use Rattle.claims.specs.AgreeDelete.{delete-done}
 use Rattle.claims.specs.History.{Among, Distinct, History}
-use Rattle.claims.specs.HistoryCalls
 use Rattle.claims.specs.HistoryKept.{history-kept}
 use Rattle.claims.specs.Draws.{Draws, areaOf}
 use Rattle.claims.specs.Tables.{area, A, B, C}
-use Rattle.claims.specs.Allowed.{Created, find-is, search-free, creates, deletes}
+use Rattle.claims.specs.Allowed.{find-is, search-free, creates, deletes}
 use Rattle.claims.specs.Examples.{ABC}
 use Rattle.claims.specs.ExamplesHold.{second-done, after-A}
 
@@ -69,7 +70,7 @@ no-refusal = record {
   find = no-refused-find;
   search = no-refused-search;
   create = λ t R label t′ a f p l h n s r. let c = creates t f R label p l t′ a h n s in accepts a (c .at) (c .is) r;
-  delete = λ t x y i t′ a f h o s r. accepts a _ (deletes t f x y i h t′ a o s .is) r;
+  delete = λ t x y i t′ a f h o s r. accepts a _ (deletes t f x y i h t′ a o s .0) r;
 }
 
 -- as with A, B and C at (9, 9)
@@ -110,13 +111,13 @@ but-free t R a f r h s n = n (search-free t f R a r h s)
 
 pub create-writes : (t : List ℤ) (R : Area) (label : ℕ) (t′ : List ℤ) (a : Answer) → CreateSays t R label t′ a → a .number ≡ pos DONE → t′ ≡ t → ⊥
 create-writes t R label t′ a c e w =
-    let d = HistoryCalls.create-done t R label t′ a c e in
-    d .adds .was-none (subst (λ t. SolidIn t (d .at)) w (d .adds .new))
+    let d = create-done c e in
+    d .done .adds .was-none (subst (λ t. SolidIn t (d .at)) w (d .done .adds .new))
 
 pub delete-writes : (t : List ℤ) (x y : ℕ) (t′ : List ℤ) (a : Answer) → DeleteSays t x y t′ a → a .number ≡ pos DONE → t′ ≡ t → ⊥
 delete-writes t x y t′ a c e w =
-    let d = HistoryCalls.delete-done t x y t′ a c e in
-    d .removes .only (d .at) (subst (λ t. SolidIn t (d .at)) (sym w) (d .solid)) .1 refl
+    let d = delete-done c e in
+    d .done .removes .only (d .at) (subst (λ t. SolidIn t (d .at)) (sym w) (d .done .allows .solid)) .1 refl
 
 -- ---- one whose second and later calls write nothing
 

@@ -1,6 +1,5 @@
 -- The calls on saved layouts: how the save of a sound table and the creates of a load give the promises. Assumes nothing.
 use mathlib.Core.Path.{_≡_, refl, sym, ap, _∙_, subst}
-use mathlib.Core.Logic.{_⊎_, inl, inr}
 use mathlib.Core.List.{List}
 use Prim.Native.Nat.{ℕ, _+_, _*_, _/_, _%_, _≤_, _<_, _^_}
 use native.Mathlib.Omega.{arith}
@@ -8,23 +7,21 @@ use lib.IntN.{ℤ, pos}
 use lib.ListN.{length}
 use mir.Syntax.{w32}
 use mir.Val.{toZ, ofZ}
+use Rattle.ruler.specs.Ruler.{count-bits}
 use Rattle.table.specs.Words.{WIDTH}
-use Rattle.geometry.specs.Cases.{lt-cases}
 use Rattle.table.specs.Sound.{SizeRight, UsedIn, Sound, solidsIn}
 use Rattle.table.specs.Fresh.{freshTable}
 use Rattle.table.specs.FreshSound.{fresh-length, fresh-one, fresh-sound, fresh-no-solid}
-use Rattle.seek.specs.Meaning.{Area}
 use Rattle.layout.specs.Bytes.{savedAt}
 use Rattle.layout.specs.declared.bytes.Saved.{Saved}
 use Rattle.layout.specs.Order.{Saves}
 use Rattle.layout.specs.OneOrder.{some-order, order-length, saves-bytes}
-use Rattle.ushanderi.specs.Answers.{DONE, SIZE, UNSOUND, RECT, LABEL, OCCUPIED, FULL, SHORT, FILE, answered, accepted}
-use Rattle.ushanderi.specs.Promises.{Unfit, Fit, CreateSays, SaveSays, areaIn, Built, LoadSays}
+use Rattle.ushanderi.specs.Answers.{SIZE, SHORT, FILE, answered, accepted}
+use Rattle.ushanderi.specs.Promises.{Fit, CreateRefuses, CreateDone, SaveSays, areaIn, Built, LoadStops, LoadSays}
 use Rattle.ushanderi.specs.Reading.{fit-forms}
-use Rattle.ushanderi.specs.Editing.{createdAnswer, same-number, created-at, create-length, adds-one}
+use Rattle.ushanderi.specs.Editing.{CreateEnds, refusal, adds-one}
 use Rattle.ushanderi.specs.declared.answer.Answer.{Answer}
 use Rattle.ushanderi.specs.declared.editing.Created.{Created}
-use Rattle.ushanderi.specs.declared.editing.Created.the-variants.{At, Rect, Label, Occupied, Full}
 
 -- ---- save
 
@@ -69,19 +66,16 @@ loading-none t t₀ bs z e = subst (λ u. Loading u bs u 0 0) (sym e) (first (le
         }
 
 module _ (t₀ : List ℤ) (bs : List ℕ) (t : List ℤ) (from n : ℕ) (l : Loading t₀ bs t from n) where
-  pub loading-more : (t′ : List ℤ) (k : ℕ) (c : Created) → CreateSays t (areaIn bs n) (savedAt bs n .label) t′ (createdAnswer c) → c ≡ At k
-      → Loading t₀ bs t′ k (n + 1)
-  loading-more t′ k c says is =
-      let s = subst (λ c. CreateSays t (areaIn bs n) (savedAt bs n .label) t′ (createdAnswer c)) is says in
-      let a = created-at t (areaIn bs n) (savedAt bs n .label) t′ k s in
-      let e = a .edited .size in
-      let z = a .fit .size in
+  pub loading-more : (t′ : List ℤ) (k : ℕ) → CreateDone t (areaIn bs n) (savedAt bs n .label) t′ k → Loading t₀ bs t′ k (n + 1)
+  loading-more t′ k d =
+      let e = d .edited .size in
+      let z = d .allows .fit .size in
       record {
-        built = Built.more (l .built) k s;
-        fit = record { size = record { whole = ap (λ n. n % WIDTH) e ∙ z .whole; least = omega arith; most = omega arith }; sound = a .edited .sound };
+        built = Built.more (l .built) k d;
+        fit = record { size = record { whole = ap (λ n. n % WIDTH) e ∙ z .whole; least = omega arith; most = omega arith }; sound = d .edited .sound };
         size = e ∙ l .size;
-        solids = omega (arith, l .solids, adds-one t t′ k _ e (a .adds));
-        used = record { below = a .adds .new .below; used = λ f. omega (arith, a .adds .new .kind) };
+        solids = omega (arith, l .solids, adds-one t t′ k _ e (d .adds));
+        used = record { below = d .adds .new .below; used = λ f. omega (arith, d .adds .new .kind) };
       }
 
   -- as many records as the table takes, at most
@@ -92,51 +86,22 @@ module _ (t₀ : List ℤ) (bs : List ℕ) (t : List ℤ) (from n : ℕ) (l : Lo
   load-done u z w e q =
       LoadSays.done z w (subst (λ m. Built m bs (length bs / 20) t) e (subst (λ m. Built (length t₀) bs m t) q (l .built))) (ap accepted q)
 
--- the answer of a load that ends at record n
-abbrev pub refusedAt : Created → ℕ → Answer
-refusedAt c n = record { number = createdAnswer c .number; value = pos n }
-
--- its number is read back from its bits
-pub number-bits : (c : Created) → toZ w32 (ofZ w32 (createdAnswer c .number)) ≡ createdAnswer c .number
-number-bits (At k) = refl
-number-bits Rect = refl
-number-bits Label = refl
-number-bits (Occupied k) = refl
-number-bits Full = refl
-
-abbrev pub NotCreated : Created → Type 0
-NotCreated c = (k : ℕ) → c ≡ At k → ⊥
-
-refused-says : (t : List ℤ) (bs : List ℕ) (n : ℕ) (u u′ : List ℤ) (c : Created) → SizeRight t → length bs % 20 ≡ 0 → n < length bs / 20
-    → Built (length t) bs n u → CreateSays u (areaIn bs n) (savedAt bs n .label) u′ (createdAnswer c) → NotCreated c
-    → LoadSays t bs (freshTable (length t)) (refusedAt c n)
-refused-says t bs n u u′ (At k) z w h b s d = absurd (d k refl)
-refused-says t bs n u u′ Rect z w h b s d = LoadSays.record-refused z w n RECT 0 u u′ h b s (λ e. omega arith) refl refl
-refused-says t bs n u u′ Label z w h b s d = LoadSays.record-refused z w n LABEL 0 u u′ h b s (λ e. omega arith) refl refl
-refused-says t bs n u u′ (Occupied k) z w h b s d = LoadSays.record-refused z w n OCCUPIED k u u′ h b s (λ e. omega arith) refl refl
-refused-says t bs n u u′ Full z w h b s d = LoadSays.record-refused z w n FULL 0 u u′ h b s (λ e. omega arith) refl refl
-
-pub load-refused : (t t₀ : List ℤ) (bs : List ℕ) (u : List ℤ) (from n : ℕ) (u′ t′ : List ℤ) (c : Created) (a : Answer) → SizeRight t → length bs % 20 ≡ 0
-    → length t₀ ≡ length t → Loading t₀ bs u from n → n < length bs / 20 → CreateSays u (areaIn bs n) (savedAt bs n .label) u′ (createdAnswer c)
-    → NotCreated c → t′ ≡ freshTable (length u′) → a ≡ refusedAt c n → LoadSays t bs t′ a
-load-refused t t₀ bs u from n u′ t′ c a z w e l h s d q r =
-    let long : length u′ ≡ length t = create-length u (areaIn bs n) (savedAt bs n .label) u′ (createdAnswer c) s ∙ l .size ∙ e in
-    let p = refused-says t bs n u u′ c z w h (subst (λ m. Built m bs n u) e (l .built)) s d in
-    subst (λ t′. LoadSays t bs t′ a) (sym (q ∙ ap freshTable long)) (subst (LoadSays t bs (freshTable (length t))) (sym r) p)
-
--- what a branch that an accepted create does not take knows of the enum's tag
-pub not-accepted : {n : ℕ} → (n ≡ 1) ⊎ ((n ≡ 2) ⊎ ((n ≡ 3) ⊎ (n ≡ 4))) → n ≡ 0 → ⊥
-not-accepted (inl h) e = omega arith
-not-accepted (inr (inl h)) e = omega arith
-not-accepted (inr (inr (inl h))) e = omega arith
-not-accepted (inr (inr (inr h))) e = omega arith
+  pub load-stopped : (u t′ : List ℤ) (a b : Answer) → SizeRight u → length bs % 20 ≡ 0 → length t₀ ≡ length u → n < length bs / 20
+      → CreateRefuses t (areaIn bs n) (savedAt bs n .label) a → t′ ≡ freshTable (length t)
+      → b ≡ record { number = toZ w32 (ofZ w32 (a .number)); value = pos n } → LoadSays u bs t′ b
+  load-stopped u t′ a b z w e h c q r =
+      let f = refusal t (areaIn bs n) (savedAt bs n .label) a c in
+      LoadSays.stopped
+      (LoadStops.stops z w n (f .number) (f .value) t h (subst (λ m. Built m bs n t) e (l .built)) (subst (CreateRefuses t (areaIn bs n) (savedAt bs n .label)) (f .is) c)
+      (r ∙ ap (λ a. record { number = toZ w32 (ofZ w32 (a .number)); value = pos n }) (f .is) ∙ ap (λ z. record { number = z; value = pos n }) (count-bits (f .number) (pos (f .number)) refl (f .low))))
+      (q ∙ ap freshTable (l .size ∙ e))
 
 -- the record read is the file's
-pub load-says : (u : List ℤ) (bs : List ℕ) (n : ℕ) (u′ : List ℤ) (a : Answer) (s : Saved) → s ≡ savedAt bs n
-    → CreateSays u (record { left = s .left; bottom = s .bottom; right = s .right; top = s .top }) (s .label) u′ a
-    → CreateSays u (areaIn bs n) (savedAt bs n .label) u′ a
-load-says u bs n u′ a s e h =
-    subst (λ s. CreateSays u (record { left = s .left; bottom = s .bottom; right = s .right; top = s .top }) (s .label) u′ a) e h
+pub load-ends-one : (u : List ℤ) (bs : List ℕ) (n : ℕ) (u′ : List ℤ) (c : Created) (s : Saved) → s ≡ savedAt bs n
+    → CreateEnds u (record { left = s .left; bottom = s .bottom; right = s .right; top = s .top }) (s .label) u′ c
+    → CreateEnds u (areaIn bs n) (savedAt bs n .label) u′ c
+load-ends-one u bs n u′ c s e h =
+    subst (λ s. CreateEnds u (record { left = s .left; bottom = s .bottom; right = s .right; top = s .top }) (s .label) u′ c) e h
 
 -- ---- what a load leaves
 
@@ -147,7 +112,7 @@ size-of t u z e = record { whole = ap (λ n. n % WIDTH) e ∙ z .whole; least = 
 module _ (t : List ℤ) (bs : List ℕ) (z : SizeRight t) where
   pub built-length : {n : ℕ} {u : List ℤ} → Built (length t) bs n u → length u ≡ length t
   built-length Built.none = fresh-length (length t) (omega (arith, z .least))
-  built-length (Built.more {n} {u} {u′} b k s) = created-at u (areaIn bs n) (savedAt bs n .label) u′ k s .edited .size ∙ built-length b
+  built-length (Built.more b k d) = d .edited .size ∙ built-length b
 
   -- a table that a load built is sound, and has a solid for each record
   pub built-fit : {n : ℕ} {u : List ℤ} → Built (length t) bs n u → Fit u
@@ -155,35 +120,22 @@ module _ (t : List ℤ) (bs : List ℕ) (z : SizeRight t) where
     where
       go : {n : ℕ} {u : List ℤ} → Built (length t) bs n u → Sound u
       go Built.none = fresh-sound (length t) (omega (arith, z .least)) (z .most)
-      go (Built.more {n} {u} {u′} b k s) = created-at u (areaIn bs n) (savedAt bs n .label) u′ k s .edited .sound
+      go (Built.more b k d) = d .edited .sound
 
   pub built-solids : {n : ℕ} {u : List ℤ} → Built (length t) bs n u → solidsIn u ≡ n
   built-solids Built.none = fresh-no-solid (length t) (omega (arith, z .least)) (z .most)
-  built-solids (Built.more {n} {u} {u′} b k s) =
-      let a = created-at u (areaIn bs n) (savedAt bs n .label) u′ k s in
-      omega (arith, built-solids b, adds-one u u′ k _ (a .edited .size) (a .adds))
+  built-solids (Built.more {n} {u} {u′} b k d) = omega (arith, built-solids b, adds-one u u′ k _ (d .edited .size) (d .adds))
 
 -- the two ends of a load: a sound table of the same length, or a refusal whose number and value are words'
 pub data Ends (t t′ : List ℤ) (a : Answer) : Type 0 where
   well : (n : ℕ) → a ≡ accepted n → Fit t′ → length t′ ≡ length t → Ends t t′ a
   not : (number value : ℕ) → a ≡ answered number value → 0 < number → number < 2 ^ 31 → value < 2 ^ 31 → Ends t t′ a
 
--- a refused create's number is one of 01's
-refused-number : (t : List ℤ) (A : Area) (label : ℕ) (t′ : List ℤ) (number value : ℕ) → CreateSays t A label t′ (answered number value) → number ≤ FULL
-refused-number t A label t′ number value (CreateSays.unfit (Unfit.size s e) q) = omega (arith, same-number number value SIZE 0 e)
-refused-number t A label t′ number value (CreateSays.unfit (Unfit.unsound s n e) q) = omega (arith, same-number number value UNSOUND 0 e)
-refused-number t A label t′ number value (CreateSays.rect f r e q) = omega (arith, same-number number value RECT 0 e)
-refused-number t A label t′ number value (CreateSays.label f r l e q) = omega (arith, same-number number value LABEL 0 e)
-refused-number t A label t′ number value (CreateSays.occupied f r l x y i h e q) = omega (arith, same-number number value OCCUPIED i e)
-refused-number t A label t′ number value (CreateSays.full f r l h c e q) = omega (arith, same-number number value FULL 0 e)
-refused-number t A label t′ number value (CreateSays.done f r l h c i d a e) = omega (arith, same-number number value DONE i e)
-
 pub load-ends : (t : List ℤ) (bs : List ℕ) (t′ : List ℤ) (a : Answer) → LoadSays t bs t′ a → Ends t t′ a
 load-ends t bs t′ a (LoadSays.size n e q) = not SIZE 0 e (omega arith) (omega arith) (omega arith)
 load-ends t bs t′ a (LoadSays.file z n e q) = not FILE 0 e (omega arith) (omega arith) (omega arith)
-load-ends t bs t′ a (LoadSays.record-refused z w n number value u u′ h b s d e q) =
-    let f = built-fit t bs z b in
-    let m = refused-number u (areaIn bs n) (savedAt bs n .label) u′ number value s in
-    not number n e (lt-cases 0 number (λ l. l) (λ l. absurd (d (omega arith)))) (omega arith)
-    (omega (arith, built-solids t bs z b, save-low u f))
+load-ends t bs t′ a (LoadSays.stopped (LoadStops.stops z w n number value u h b c e) q) =
+    let f = refusal u (areaIn bs n) (savedAt bs n .label) (answered number value) c in
+    let s : number ≡ f .number = let p : pos number ≡ pos (f .number) = ap (λ a. a .number) (f .is) in cc in
+    not number n e (omega (arith, f .some)) (omega (arith, f .low)) (omega (arith, built-solids t bs z b, save-low u (built-fit t bs z b)))
 load-ends t bs t′ a (LoadSays.done z w b e) = well (length bs / 20) e (built-fit t bs z b) (built-length t bs z b)

@@ -1,5 +1,6 @@
 -- What each call answers, and why: the reader's pages are Answers and Promises.
 pub mod Answers
+pub mod Edits
 pub mod Promises
 pub mod Entry
 pub mod Reading

@@ -6,8 +6,8 @@ use Prim.Native.Nat.{ℕ, _+_, _-_, _*_, _/_, _%_, _≤_, _<_}
 use lib.IntN.{ℤ, pos}
 use lib.ListN.{length, drop}
 use Rattle.geometry.specs.Picture
-use Rattle.geometry.specs.Picture.{ZERO, FREE, SOLID, InPlane, Tile}
-use Rattle.table.specs.Words.{KIND, recordsOf, num, tileOf}
+use Rattle.geometry.specs.Picture.{ZERO, InPlane}
+use Rattle.table.specs.Words.{KIND, recordsOf, num}
 use Rattle.table.specs.Words
 use Rattle.table.specs.Sound.{SizeRight, Sound, capacity, solidsIn}
 use Rattle.table.specs.Fresh.{freshTable}
@@ -17,8 +17,9 @@ use Rattle.seek.specs.Find.{Finds}
 use Rattle.seek.specs.Neighbours.{sideOf, Neighbours}
 use Rattle.layout.specs.Bytes.{savedAt}
 use Rattle.layout.specs.Order.{Comes, Saves}
-use Rattle.ushanderi.specs.Answers.{DONE, SIZE, UNSOUND, POINT, RECT, LABEL, OCCUPIED, FULL, SPACE, SIDE, SHORT, FILE, ROOM, answered, accepted, refused, nothing}
+use Rattle.ushanderi.specs.Answers.{SIZE, UNSOUND, POINT, RECT, LABEL, OCCUPIED, FULL, SPACE, SIDE, SHORT, FILE, ROOM, answered, accepted, refused, nothing}
 use Rattle.ushanderi.specs.declared.answer.Answer.{Answer}
+use Rattle.ushanderi.specs.Edits.{drawn, Adds, Removes, Edited, NoRoom}
 
 -- The checks 1 and 2, which every call but fresh, view and load runs first.
 pub data Unfit (t : List ℤ) (a : Answer) : Type 0 where
@@ -87,50 +88,57 @@ pub data EnumerateSays (t : List ℤ) (A : Area) (out out′ : List ℤ) (a : An
   done : Fit t → RectRight A → (ks : List ℕ) → Directed t A ks → length ks ≤ length out → a ≡ accepted (length ks) → out′ ≡ listed ks out
       → EnumerateSays t A out out′ a
 
--- the solid that a create draws
-abbrev pub drawn : Area → ℕ → Tile
-drawn A label = record { left = A .left; bottom = A .bottom; right = A .right; top = A .top; kind = SOLID; label = label }
+-- Create: 1, 2, 4, 5, 6, 7, which write nothing. OCCUPIED's value: the record that area search gives.
+pub data CreateRefuses (t : List ℤ) (A : Area) (label : ℕ) (a : Answer) : Type 0 where
+  unfit : Unfit t a → CreateRefuses t A label a
+  rect : Fit t → (RectRight A → ⊥) → a ≡ refused RECT → CreateRefuses t A label a
+  label : Fit t → RectRight A → label ≤ ZERO → a ≡ refused LABEL → CreateRefuses t A label a
+  occupied : Fit t → RectRight A → ZERO < label → (x y i : ℕ) → First t A x y i → a ≡ answered OCCUPIED i → CreateRefuses t A label a
+  full : Fit t → RectRight A → ZERO < label → FreeArea t A → solidsIn t ≡ capacity (recordsOf t) → a ≡ refused FULL → CreateRefuses t A label a
 
--- the solids of t′ are those of t, at their record numbers, and one more at record k
-pub record Adds (t t′ : List ℤ) (k : ℕ) (v : Tile) : Type 0 where
-  pub new : SolidIn t′ k
-  pub is : tileOf t′ k ≡ v
-  pub was-none : SolidIn t k → ⊥
-  pub kept : (i : ℕ) → SolidIn t i → SolidIn t′ i × (tileOf t′ i ≡ tileOf t i)
-  pub only : (i : ℕ) → SolidIn t′ i → i ≢ k → SolidIn t i
+-- what holds where none of them does
+pub record CreateAllows (t : List ℤ) (A : Area) (label : ℕ) : Type 0 where
+  pub fit : Fit t
+  pub rect : RectRight A
+  pub named : ZERO < label
+  pub free : FreeArea t A
+  pub few : solidsIn t < capacity (recordsOf t)
 
--- the solids of t′ are those of t but that of record k, at their record numbers
-pub record Removes (t t′ : List ℤ) (k : ℕ) : Type 0 where
-  pub kept : (i : ℕ) → SolidIn t i → i ≢ k → SolidIn t′ i × (tileOf t′ i ≡ tileOf t i)
-  pub only : (i : ℕ) → SolidIn t′ i → SolidIn t i × (i ≢ k)
+-- an accepted create, whose solid is record k
+pub record CreateDone (t : List ℤ) (A : Area) (label : ℕ) (t′ : List ℤ) (k : ℕ) : Type 0 where
+  pub allows : CreateAllows t A label
+  pub edited : Edited t t′
+  pub adds : Adds t t′ k (drawn A label)
 
--- the table after an accepted edit: sound, and of the same length
-pub record Edited (t t′ : List ℤ) : Type 0 where
-  pub sound : Sound t′
-  pub size : length t′ ≡ length t
-
--- Create: 1, 2, 4, 5, 6, 7. Value: the new solid's record. OCCUPIED's value: the record that area search gives.
+-- Value: the new solid's record.
 pub data CreateSays (t : List ℤ) (A : Area) (label : ℕ) (t′ : List ℤ) (a : Answer) : Type 0 where
-  unfit : Unfit t a → t′ ≡ t → CreateSays t A label t′ a
-  rect : Fit t → (RectRight A → ⊥) → a ≡ refused RECT → t′ ≡ t → CreateSays t A label t′ a
-  label : Fit t → RectRight A → label ≤ ZERO → a ≡ refused LABEL → t′ ≡ t → CreateSays t A label t′ a
-  occupied : Fit t → RectRight A → ZERO < label → (x y i : ℕ) → First t A x y i → a ≡ answered OCCUPIED i → t′ ≡ t → CreateSays t A label t′ a
-  full : Fit t → RectRight A → ZERO < label → FreeArea t A → solidsIn t ≡ capacity (recordsOf t) → a ≡ refused FULL → t′ ≡ t → CreateSays t A label t′ a
-  done : Fit t → RectRight A → ZERO < label → FreeArea t A → solidsIn t < capacity (recordsOf t) → (k : ℕ) → Edited t t′ → Adds t t′ k (drawn A label)
-      → a ≡ accepted k → CreateSays t A label t′ a
+  refuses : CreateRefuses t A label a → t′ ≡ t → CreateSays t A label t′ a
+  done : (k : ℕ) → CreateDone t A label t′ k → a ≡ accepted k → CreateSays t A label t′ a
 
--- no record of the table is free
-abbrev pub NoRoom : List ℤ → Type 0
-NoRoom t = (j : ℕ) → j < recordsOf t → num t j KIND ≢ FREE
+-- Delete at a cell: 1, 2, 3, 8, 12, which write nothing.
+pub data DeleteRefuses (t : List ℤ) (x y : ℕ) (a : Answer) : Type 0 where
+  unfit : Unfit t a → DeleteRefuses t x y a
+  point : Fit t → (InPlane x y → ⊥) → a ≡ refused POINT → DeleteRefuses t x y a
+  space : Fit t → (i : ℕ) → Finds t x y i → num t i KIND ≡ Picture.SPACE → a ≡ refused SPACE → DeleteRefuses t x y a
+  room : Fit t → (i : ℕ) → Finds t x y i → SolidIn t i → NoRoom t → a ≡ refused ROOM → DeleteRefuses t x y a
 
--- Delete at a cell: 1, 2, 3, 8, 12. Value: the label removed.
+-- what holds where none of them does: the solid of record i holds the cell
+pub record DeleteAllows (t : List ℤ) (x y i : ℕ) : Type 0 where
+  pub fit : Fit t
+  pub finds : Finds t x y i
+  pub solid : SolidIn t i
+  pub room : NoRoom t → ⊥
+
+-- an accepted delete of record i
+pub record DeleteDone (t : List ℤ) (x y : ℕ) (t′ : List ℤ) (i : ℕ) : Type 0 where
+  pub allows : DeleteAllows t x y i
+  pub edited : Edited t t′
+  pub removes : Removes t t′ i
+
+-- Value: the label removed.
 pub data DeleteSays (t : List ℤ) (x y : ℕ) (t′ : List ℤ) (a : Answer) : Type 0 where
-  unfit : Unfit t a → t′ ≡ t → DeleteSays t x y t′ a
-  point : Fit t → (InPlane x y → ⊥) → a ≡ refused POINT → t′ ≡ t → DeleteSays t x y t′ a
-  space : Fit t → (i : ℕ) → Finds t x y i → num t i KIND ≡ Picture.SPACE → a ≡ refused SPACE → t′ ≡ t → DeleteSays t x y t′ a
-  room : Fit t → (i : ℕ) → Finds t x y i → SolidIn t i → NoRoom t → a ≡ refused ROOM → t′ ≡ t → DeleteSays t x y t′ a
-  done : Fit t → (i : ℕ) → Finds t x y i → SolidIn t i → (NoRoom t → ⊥) → Edited t t′ → Removes t t′ i → a ≡ accepted (num t i Words.LABEL - ZERO)
-      → DeleteSays t x y t′ a
+  refuses : DeleteRefuses t x y a → t′ ≡ t → DeleteSays t x y t′ a
+  done : (i : ℕ) → DeleteDone t x y t′ i → a ≡ accepted (num t i Words.LABEL - ZERO) → DeleteSays t x y t′ a
 
 -- Save: 1, 2, 10. Value: bytes written.
 pub data SaveSays (t : List ℤ) (out out′ : List ℕ) (a : Answer) : Type 0 where
@@ -146,14 +154,17 @@ areaIn bs n = let s = savedAt bs n in record { left = s .left; bottom = s .botto
 -- the table u is the fresh plane after one accepted create for each of the file's first n records, in file order
 pub data Built (words : ℕ) (bs : List ℕ) : ℕ → List ℤ → Type 0 where
   none : Built words bs 0 (freshTable words)
-  more : {n : ℕ} {u u′ : List ℤ} → Built words bs n u → (k : ℕ) → CreateSays u (areaIn bs n) (savedAt bs n .label) u′ (accepted k) → Built words bs (n + 1) u′
+  more : {n : ℕ} {u u′ : List ℤ} → Built words bs n u → (k : ℕ) → CreateDone u (areaIn bs n) (savedAt bs n .label) u′ k → Built words bs (n + 1) u′
 
--- Load: 1, 11, then fresh, then one create for each record in file order. At the first refused one the answer is that refusal's number, the value its
--- index, and the table is a fresh plane. A load that ends well gives the number of records.
+-- a load that comes to a refused create: the answer is that refusal's number, the value its index
+pub data LoadStops (t : List ℤ) (bs : List ℕ) (a : Answer) : Type 0 where
+  stops : SizeRight t → length bs % 20 ≡ 0 → (n number value : ℕ) (u : List ℤ) → n < length bs / 20 → Built (length t) bs n u
+      → CreateRefuses u (areaIn bs n) (savedAt bs n .label) (answered number value) → a ≡ answered number n → LoadStops t bs a
+
+-- Load: 1, 11, then fresh, then one create for each record in file order. At the first refused one the table is a fresh plane. A load that ends well gives
+-- the number of records.
 pub data LoadSays (t : List ℤ) (bs : List ℕ) (t′ : List ℤ) (a : Answer) : Type 0 where
   size : (SizeRight t → ⊥) → a ≡ refused SIZE → t′ ≡ t → LoadSays t bs t′ a
   file : SizeRight t → length bs % 20 ≢ 0 → a ≡ refused FILE → t′ ≡ t → LoadSays t bs t′ a
-  record-refused : SizeRight t → length bs % 20 ≡ 0 → (n number value : ℕ) (u u′ : List ℤ) → n < length bs / 20 → Built (length t) bs n u
-      → CreateSays u (areaIn bs n) (savedAt bs n .label) u′ (answered number value) → number ≢ DONE
-      → a ≡ answered number n → t′ ≡ freshTable (length t) → LoadSays t bs t′ a
+  stopped : LoadStops t bs a → t′ ≡ freshTable (length t) → LoadSays t bs t′ a
   done : SizeRight t → length bs % 20 ≡ 0 → Built (length t) bs (length bs / 20) t′ → a ≡ accepted (length bs / 20) → LoadSays t bs t′ a

@@ -1,4 +1,9 @@
 // Answers: 01's numbers by name, each once, and the value beside them.
+ghost use mathlib.Core.Path.{_≡_};
+ghost use Prim.Native.Nat.{_<_, _^_};
+ghost use lib.IntN.{pos};
+ghost use Rattle.ushanderi.specs.Answers.{accepted};
+
 #[repr(C)]
 pub struct Answer {
     pub number: i32,
@@ -31,3 +36,30 @@ pub const FILE: i32 = 11;
 
 // Area search's value where the rectangle is free.
 pub const NOTHING: i32 = -1;
+
+pub(crate) fn done(value: u64) -> Answer
+    requires { ⌜ value < 2 ^ 31 ⌝ }
+    ensures { λ r. ⌜ r ≡ accepted value ⌝ }
+{
+    Answer {
+        number: DONE,
+        value: ruler::count(value),
+    }
+}
+
+// A refusal's value is 0 unless said.
+pub(crate) fn refused(number: i32) -> Answer
+    ensures { λ r. ⌜ r ≡ record { number = number; value = pos 0 } ⌝ }
+{
+    Answer { number, value: 0 }
+}
+
+pub(crate) fn answered(number: i32, value: u64) -> Answer
+    requires { ⌜ value < 2 ^ 31 ⌝ }
+    ensures { λ r. ⌜ r ≡ record { number = number; value = pos value } ⌝ }
+{
+    Answer {
+        number,
+        value: ruler::count(value),
+    }
+}

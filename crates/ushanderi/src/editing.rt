@@ -1,21 +1,22 @@
-// The calls that change a plane: create and delete.
+// The calls that change a plane: create and delete. Each decides first, which only reads, and then acts.
 ghost use mathlib.Core.Path.{_≡_};
-ghost use Prim.Native.Nat.{_<_};
-ghost use Rattle.geometry.specs.Picture.{ZERO};
+ghost use Prim.Native.Nat.{_<_, _^_};
 ghost use Rattle.table.specs.Sound.{UsedIn};
 ghost use Rattle.ruler.specs.Ruler.{ruler};
-ghost use Rattle.seek.specs.Meaning.{RectRight, FreeArea};
+ghost use Rattle.seek.specs.Meaning.{SolidIn};
 ghost use Rattle.seek.specs.Enumerate.{areaOf};
-ghost use Rattle.ushanderi.specs.Promises.{Fit, CreateSays, DeleteSays};
+ghost use Rattle.ushanderi.specs.Promises.{Fit, CreateAllows, CreateDone, CreateSays, DeleteSays};
 ghost use Rattle.ushanderi.specs.Reading.{rulerArea};
-ghost use Rattle.ushanderi.specs.Editing.{createdAnswer, LowCreated, Ready, DeletesAt};
+ghost use Rattle.ushanderi.specs.Editing.{CreateDecides, CreateEnds, DeleteDecides, Ready, Taken};
 use crate::answer::Answer;
-use crate::answer::DONE;
 use crate::answer::FULL;
 use crate::answer::LABEL;
 use crate::answer::OCCUPIED;
 use crate::answer::RECT;
 use crate::answer::SPACE;
+use crate::answer::answered;
+use crate::answer::done;
+use crate::answer::refused;
 use crate::entry::Entry;
 use crate::entry::admit;
 use crate::entry::entry_answer;
@@ -28,46 +29,51 @@ use seek::Area;
 use seek::Seen;
 use table::numbers;
 
-// What a create on a sound table answers: the new solid's record, or why there is none.
-pub enum Created {
+// Whether a create may go on, and else the refusal as it goes out.
+enum MayCreate {
+    Refused(Answer),
+    Go,
+}
+
+// The decision on a table that is known to be sound and to have so many solids: 4 to 7. The search starts at the tile `from`.
+fn may_create(t: &[i32], from: usize, area: Area, label: u64, solids: usize) -> MayCreate
+    requires { ⌜ Ready (now t) from label solids ⌝ }
+    ensures { λ r. ⌜ CreateDecides (now (t .entry)) (areaOf area) label r ⌝ }
+{
+    if rect_right(area) {
+        if label <= numbers::ZERO {
+            return MayCreate::Refused(refused(LABEL));
+        }
+        let s = seek::search(t, from, area.left, area.bottom, area.right, area.top);
+        if let Seen::Solid(i, _, _) = s {
+            return MayCreate::Refused(answered(OCCUPIED, i as u64));
+        }
+        if solids < table::capacity(t) {
+            return MayCreate::Go;
+        }
+        return MayCreate::Refused(refused(FULL));
+    }
+    MayCreate::Refused(refused(RECT))
+}
+
+// The act, where the decision lets it go on: the new solid's record.
+fn draw(t: &mut [i32], from: usize, area: Area, label: u64) -> usize
+    requires { ⌜ UsedIn (now t) from ⌝ }
+    requires { ⌜ label < 2 ^ 32 ⌝ }
+    requires { ⌜ CreateAllows (now t) (areaOf area) label ⌝ }
+    ensures { λ r. ⌜ CreateDone (now (t .entry)) (areaOf area) label (now (t .exit)) r ⌝ }
+{
+    edit::create::create(t, from, area.left, area.bottom, area.right, area.top, label)
+}
+
+// What came of a create: the new solid's record, or the refusal.
+pub(crate) enum Created {
     At(usize),
-    Rect,
-    Label,
-    Occupied(usize),
-    Full,
+    Refused(Answer),
 }
 
-// 7, then the create: the area is free.
-fn lay(t: &mut [i32], from: usize, area: Area, label: u64, solids: usize) -> Created
-    requires { ⌜ Ready (now t) from label solids ⌝ }
-    requires { ⌜ RectRight (areaOf area) ⌝ }
-    requires { ⌜ ZERO < label ⌝ }
-    requires { ⌜ FreeArea (now t) (areaOf area) ⌝ }
-    ensures { λ r. ⌜ CreateSays (now (t .entry)) (areaOf area) label (now (t .exit)) (createdAnswer r) ⌝ }
-{
-    if solids < table::capacity(t) {
-        let k = edit::create::create(t, from, area.left, area.bottom, area.right, area.top, label);
-        return Created::At(k);
-    }
-    Created::Full
-}
-
-// 6 and 7, then the create: rectangle and label are right.
-fn fill(t: &mut [i32], from: usize, area: Area, label: u64, solids: usize) -> Created
-    requires { ⌜ Ready (now t) from label solids ⌝ }
-    requires { ⌜ RectRight (areaOf area) ⌝ }
-    requires { ⌜ ZERO < label ⌝ }
-    ensures { λ r. ⌜ CreateSays (now (t .entry)) (areaOf area) label (now (t .exit)) (createdAnswer r) ⌝ }
-{
-    let s = seek::search(t, from, area.left, area.bottom, area.right, area.top);
-    match s {
-        Seen::Nothing => lay(t, from, area, label, solids),
-        Seen::Solid(i, _, _) => Created::Occupied(i),
-    }
-}
-
-// A create on a table that is known to be sound and to have so many solids: 4 to 7, then the create. Searches start at the tile `from`.
-pub(crate) fn create_in(
+// One create on a table that is known to be sound and to have so many solids: the decision, then the act.
+pub(crate) fn create_one(
     t: &mut [i32],
     from: usize,
     area: Area,
@@ -75,44 +81,12 @@ pub(crate) fn create_in(
     solids: usize,
 ) -> Created
     requires { ⌜ Ready (now t) from label solids ⌝ }
-    ensures { λ r. ⌜ CreateSays (now (t .entry)) (areaOf area) label (now (t .exit)) (createdAnswer r) ⌝ }
+    ensures { λ r. ⌜ CreateEnds (now (t .entry)) (areaOf area) label (now (t .exit)) r ⌝ }
 {
-    if rect_right(area) {
-        if label <= numbers::ZERO {
-            return Created::Label;
-        }
-        fill(t, from, area, label, solids)
-    } else {
-        Created::Rect
-    }
-}
-
-// A create's answer by its number and value.
-pub(crate) fn created_answer(c: Created) -> Answer
-    requires { ⌜ LowCreated c ⌝ }
-    ensures { λ r. ⌜ r ≡ createdAnswer c ⌝ }
-{
-    match c {
-        Created::At(i) => Answer {
-            number: DONE,
-            value: ruler::count(i as u64),
-        },
-        Created::Rect => Answer {
-            number: RECT,
-            value: 0,
-        },
-        Created::Label => Answer {
-            number: LABEL,
-            value: 0,
-        },
-        Created::Occupied(i) => Answer {
-            number: OCCUPIED,
-            value: ruler::count(i as u64),
-        },
-        Created::Full => Answer {
-            number: FULL,
-            value: 0,
-        },
+    let d = may_create(t, from, area, label, solids);
+    match d {
+        MayCreate::Refused(a) => Created::Refused(a),
+        MayCreate::Go => Created::At(draw(t, from, area, label)),
     }
 }
 
@@ -124,42 +98,56 @@ pub fn create(t: &mut [i32], left: i32, bottom: i32, right: i32, top: i32, label
         return entry_answer(e);
     };
     let from = seek::first_used(t);
-    let c = create_in(
+    let c = create_one(
         t,
         from,
         area(left, bottom, right, top),
         ruler::at(label),
         solids,
     );
-    created_answer(c)
+    match c {
+        Created::At(k) => done(k as u64),
+        Created::Refused(a) => a,
+    }
 }
 
-// 8, then the delete of the tile i. 12 never holds: a sound table has a free record.
-fn delete_at(t: &mut [i32], i: usize) -> Answer
-    requires { ⌜ Fit (now t) ⌝ }
-    requires { ⌜ UsedIn (now t) i ⌝ }
-    ensures { λ r. ⌜ DeletesAt (now (t .entry)) i (now (t .exit)) r ⌝ }
+// The solid that a delete takes away, or the refusal as it goes out.
+enum MayDelete {
+    Refused(Answer),
+    Go(usize),
+}
+
+// The decision: 1, 2, 3, 8. 12 never holds: a sound table has a free record.
+fn may_delete(t: &[i32], x: i32, y: i32) -> MayDelete
+    ensures { λ r. ⌜ DeleteDecides (now (t .entry)) (ruler x) (ruler y) r ⌝ }
 {
+    let f = find(t, x, y, 0);
+    let Found::At(i) = f else {
+        return MayDelete::Refused(found_answer(f));
+    };
     if table::word(t, i, numbers::KIND) == numbers::SOLID {
-        let label = table::word(t, i, numbers::LABEL);
-        edit::delete::delete(t, i);
-        return Answer {
-            number: DONE,
-            value: ruler::count(label - numbers::ZERO),
-        };
+        return MayDelete::Go(i);
     }
-    Answer {
-        number: SPACE,
-        value: 0,
-    }
+    MayDelete::Refused(refused(SPACE))
+}
+
+// The act: the label of the solid taken away.
+fn remove(t: &mut [i32], i: usize) -> u64
+    requires { ⌜ Fit (now t) ⌝ }
+    requires { ⌜ SolidIn (now t) i ⌝ }
+    ensures { λ r. ⌜ Taken (now (t .entry)) i (now (t .exit)) r ⌝ }
+{
+    let label = table::word(t, i, numbers::LABEL);
+    edit::delete::delete(t, i);
+    label - numbers::ZERO
 }
 
 pub fn delete(t: &mut [i32], x: i32, y: i32) -> Answer
     ensures { λ r. ⌜ DeleteSays (now (t .entry)) (ruler x) (ruler y) (now (t .exit)) r ⌝ }
 {
-    let f = find(t, x, y, 0);
-    let Found::At(i) = f else {
-        return found_answer(f);
-    };
-    delete_at(t, i)
+    let d = may_delete(t, x, y);
+    match d {
+        MayDelete::Refused(a) => a,
+        MayDelete::Go(i) => done(remove(t, i)),
+    }
 }

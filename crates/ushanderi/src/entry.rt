@@ -2,9 +2,10 @@
 ghost use mathlib.Core.Path.{_≡_};
 ghost use Rattle.ushanderi.specs.Entry.{Admits, entryAnswer, FewSolids};
 use crate::answer::Answer;
-use crate::answer::DONE;
 use crate::answer::SIZE;
 use crate::answer::UNSOUND;
+use crate::answer::done;
+use crate::answer::refused;
 
 pub enum Entry {
     Size,
@@ -34,17 +35,8 @@ pub(crate) fn entry_answer(e: Entry) -> Answer
     ensures { λ r. ⌜ r ≡ entryAnswer e ⌝ }
 {
     match e {
-        Entry::Size => Answer {
-            number: SIZE,
-            value: 0,
-        },
-        Entry::Unsound => Answer {
-            number: UNSOUND,
-            value: 0,
-        },
-        Entry::Sound(solids) => Answer {
-            number: DONE,
-            value: ruler::count(solids as u64),
-        },
+        Entry::Size => refused(SIZE),
+        Entry::Unsound => refused(UNSOUND),
+        Entry::Sound(solids) => done(solids as u64),
     }
 }

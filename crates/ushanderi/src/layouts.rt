@@ -1,20 +1,20 @@
 // The calls on saved layouts: save and load.
 ghost use mathlib.Core.Path.{_≡_};
-ghost use Prim.Native.Nat.{_+_, _*_, _%_, _≤_, _<_, _^_};
+ghost use Prim.Native.Nat.{_+_, _*_, _%_, _≤_};
 ghost use lib.ListN.{length};
 ghost use Rattle.table.specs.Sound.{SizeRight, UsedIn, solidsIn};
 ghost use Rattle.layout.specs.Bytes.{savedAt};
-ghost use Rattle.ushanderi.specs.Promises.{Fit, CreateSays, SaveSays, LoadSays, areaIn};
-ghost use Rattle.ushanderi.specs.Editing.{createdAnswer, LowCreated};
-ghost use Rattle.ushanderi.specs.Layouts.{refusedAt};
+ghost use Rattle.ushanderi.specs.Promises.{Fit, SaveSays, areaIn, LoadSays};
+ghost use Rattle.ushanderi.specs.Editing.{CreateEnds};
 use crate::answer::Answer;
 use crate::answer::DONE;
 use crate::answer::FILE;
 use crate::answer::SHORT;
 use crate::answer::SIZE;
+use crate::answer::answered;
+use crate::answer::done;
 use crate::editing::Created;
-use crate::editing::create_in;
-use crate::editing::created_answer;
+use crate::editing::create_one;
 use crate::entry::Entry;
 use crate::entry::admit;
 use crate::entry::entry_answer;
@@ -59,7 +59,7 @@ fn load_one(t: &mut [i32], bytes: &[u8], from: usize, n: usize) -> Created
     requires { ⌜ UsedIn (now t) from ⌝ }
     requires { ⌜ n ≡ solidsIn (now t) ⌝ }
     requires { ⌜ 20 * n + 20 ≤ length (now bytes) ⌝ }
-    ensures { λ r. ⌜ CreateSays (now (t .entry)) (areaIn (now (bytes .entry)) n) (savedAt (now (bytes .entry)) n .label) (now (t .exit)) (createdAnswer r) ⌝ }
+    ensures { λ r. ⌜ CreateEnds (now (t .entry)) (areaIn (now (bytes .entry)) n) (savedAt (now (bytes .entry)) n .label) (now (t .exit)) r ⌝ }
 {
     let s = layout::read_saved(bytes, n);
     let area = Area {
@@ -68,20 +68,7 @@ fn load_one(t: &mut [i32], bytes: &[u8], from: usize, n: usize) -> Created
         right: s.right,
         top: s.top,
     };
-    create_in(t, from, area, s.label, n)
-}
-
-// The answer of a load that ends at record n, whose create was refused.
-fn refused_at(c: Created, n: usize) -> Answer
-    requires { ⌜ LowCreated c ⌝ }
-    requires { ⌜ n < 2 ^ 31 ⌝ }
-    ensures { λ r. ⌜ r ≡ refusedAt c n ⌝ }
-{
-    let a = created_answer(c);
-    Answer {
-        number: a.number,
-        value: ruler::count(n as u64),
-    }
+    create_one(t, from, area, s.label, n)
 }
 
 // The creates for all records of a file, on a fresh plane; where one is refused the plane is fresh again.
@@ -96,17 +83,16 @@ fn load_all(t: &mut [i32], bytes: &[u8]) -> Answer
     let mut n: usize = 0;
     while n < count {
         let c = load_one(t, bytes, from, n);
-        let Created::At(k) = c else {
-            table::fresh(t);
-            return refused_at(c, n);
-        };
-        from = k;
+        match c {
+            Created::At(k) => from = k,
+            Created::Refused(a) => {
+                table::fresh(t);
+                return answered(a.number, n as u64);
+            }
+        }
         n += 1;
     }
-    Answer {
-        number: DONE,
-        value: ruler::count(n as u64),
-    }
+    done(n as u64)
 }
 
 pub fn load(t: &mut [i32], bytes: &[u8]) -> Answer

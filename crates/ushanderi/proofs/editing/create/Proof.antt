@@ -1,14 +1,13 @@
--- `ushanderi::editing::create` meets its promise: where the checks refuse, what they say; else what `create_in` gives. Assumes nothing.
+-- `ushanderi::editing::create` meets its promise: where the checks refuse, what they say; else what `create_one` gives. Assumes nothing.
 use denote.Enum.Declared.{tagOf}
 use Rattle.ushanderi.proofs.entry.Entry.{the-type}
 use mathlib.Core.Path.{refl, sym, ap, _∙_, subst}
 use Rattle.ruler.specs.Ruler.{ruler-bits}
-use Rattle.ushanderi.specs.Promises.{Unfit, CreateSays}
+use Rattle.ushanderi.specs.Promises.{Unfit, CreateRefuses, CreateSays}
 use Rattle.ushanderi.specs.Entry.{admits-fit, admits-few}
 use Rattle.ushanderi.specs.Reading.{fit-forms, admits-unfit, not-third}
 use Rattle.ushanderi.specs.ReadingAreas.{area-bits}
-use Rattle.ushanderi.specs.Editing.{created-low, create-same}
-use Rattle.ushanderi.proofs.entry.Entry.{the-type}
+use Rattle.ushanderi.specs.Editing.{CreateEnds, create-same, done-low}
 use borrow.Author.Needs.{needs}
 use Rattle.ushanderi.proofs.editing.create.Statement.{statement}
 use Rattle.ushanderi.proofs.editing.create.Tie as tie
@@ -28,7 +27,7 @@ same-length c = search needs
 returns : tie.Need-returns
 returns c =
     let u = admits-unfit _ _ (c .before .before .admit .ensures) (λ n q. not-third (c .before .match .keys2) (ap (tagOf the-type) q)) in
-    CreateSays.unfit (subst (Unfit _) (sym (c .entry-answer .ensures)) u) refl
+    CreateSays.refuses (CreateRefuses.unfit (subst (Unfit _) (sym (c .entry-answer .ensures)) u)) refl
 
 first-used-requires : tie.Need-first-used-requires
 first-used-requires c κs =
@@ -42,15 +41,23 @@ area-requires c κs = search needs
 at-requires : tie.Need-at-requires
 at-requires c κs = search needs
 
-create-in-requires : tie.Need-create-in-requires
-create-in-requires c κs =
+create-one-requires : tie.Need-create-one-requires
+create-one-requires c κs =
     let u = c .before .before .before in
     let e = u .before .before .before in
     let (f, n) = admits-fit _ _ _ (e .before .before .admit .ensures) (e .e .given .1) in
     record { fit = f; used = u .first-used .ensures .used; word = c .at .ensures .fits; number = n }
 
-created-answer-requires : tie.Need-created-answer-requires
-created-answer-requires c κs = created-low _ _ _ _ _ (c .before .create-in .ensures)
+enum-known-c : tie.Need-enum-known-c
+enum-known-c c = search needs
+
+done-requires : tie.Need-done-requires
+done-requires c κs =
+    let k = c .before in
+    done-low _ _ _ _ _ (subst (CreateEnds _ _ _ _) (k .c .given .1) (k .before .before .before .create-one .ensures))
+
+enum-known-c-2 : tie.Need-enum-known-c-2
+enum-known-c-2 c = search needs
 
 same-length-2 : tie.Need-same-length-2
 same-length-2 c = search needs
@@ -58,11 +65,27 @@ same-length-2 c = search needs
 returns-2 : tie.Need-returns-2
 returns-2 c =
     let k = c .before .before in
-    let l = k .before in
+    let o = k .before .before .before in
+    let l = o .before in
     let a = l .before in
     let s = a .before .before .before .before .before .before .before .before .before in
     let e = a .area .ensures ∙ area-bits _ _ _ _ (s .fits .left) (s .fits .bottom) (s .fits .right) (s .fits .top) in
-    create-same e (l .at .ensures .is ∙ ruler-bits (s .args .label) (s .fits .label)) (sym (c .created-answer .ensures)) (k .create-in .ensures)
+    create-same e (l .at .ensures .is ∙ ruler-bits (s .args .label) (s .fits .label))
+    (CreateSays.done _ (subst (CreateEnds _ _ _ _) (k .c .given .1) (o .create-one .ensures)) (c .done .ensures))
+
+same-length-3 : tie.Need-same-length-3
+same-length-3 c = search needs
+
+returns-3 : tie.Need-returns-3
+returns-3 c =
+    let k = c .before in
+    let o = k .before .before .before in
+    let l = o .before in
+    let a = l .before in
+    let s = a .before .before .before .before .before .before .before .before .before in
+    let e = a .area .ensures ∙ area-bits _ _ _ _ (s .fits .left) (s .fits .bottom) (s .fits .right) (s .fits .top) in
+    let (r, w) = subst (CreateEnds _ _ _ _) (k .c2 .given .1) (o .create-one .ensures) in
+    create-same e (l .at .ensures .is ∙ ruler-bits (s .args .label) (s .fits .label)) (CreateSays.refuses r w)
 
 pub create-spec : {M : Type 1} → statement M
 create-spec =
@@ -76,7 +99,11 @@ create-spec =
     first-used-requires
     area-requires
     at-requires
-    create-in-requires
-    created-answer-requires
+    create-one-requires
+    enum-known-c
+    done-requires
+    enum-known-c-2
     same-length-2
-    returns-2)
+    returns-2
+    same-length-3
+    returns-3)

@@ -1,62 +1,62 @@
--- `ushanderi::editing::delete` meets its promise: a find's refusal goes out unchanged; else what `delete_at` gives. Assumes nothing.
-use denote.Enum.Declared.{tagOf}
-use Rattle.ushanderi.proofs.reading.Found.{the-type}
-use mathlib.Core.Path.{sym, ap, subst}
+-- `ushanderi::editing::delete` meets its promise: the decision's refusal, or the act's label. Assumes nothing.
+use mathlib.Core.Path.{refl, sym, subst}
 use Rattle.ushanderi.specs.Promises.{DeleteSays}
-use Rattle.ushanderi.specs.Reading.{find-at, find-low, find-bits, not-first}
-use Rattle.ushanderi.specs.Editing.{deletes-at, refused-delete}
-use Rattle.ushanderi.proofs.reading.Found.{the-type}
+use Rattle.ushanderi.specs.Editing.{DeleteDecides, taken-says, delete-bits}
 use borrow.Author.Needs.{needs}
 use Rattle.ushanderi.proofs.editing.delete.Statement.{statement}
 use Rattle.ushanderi.proofs.editing.delete.Tie as tie
 
-find-requires : tie.Need-find-requires
-find-requires c κs = search needs
+may-delete-requires : tie.Need-may-delete-requires
+may-delete-requires c κs = search needs
 
-enum-known-f : tie.Need-enum-known-f
-enum-known-f c = search needs
+enum-known-d : tie.Need-enum-known-d
+enum-known-d c = search needs
 
-found-answer-requires : tie.Need-found-answer-requires
-found-answer-requires c κs = find-low _ _ _ _ (c .before .find .ensures)
+enum-known-d-2 : tie.Need-enum-known-d-2
+enum-known-d-2 c = search needs
+
+remove-requires : tie.Need-remove-requires
+remove-requires c κs =
+    let k = c .before .before in
+    let a = subst (DeleteDecides _ _ _) (k .d2 .given .1) (k .before .before .may-delete .ensures) in
+    (a .fit, a .solid)
+
+done-requires : tie.Need-done-requires
+done-requires c κs = c .before .remove .ensures .low
 
 same-length : tie.Need-same-length
 same-length c = search needs
 
 returns : tie.Need-returns
 returns c =
-    let g = c .before .before in
-    let s = g .before .before in
-    let f = find-bits _ _ _ _ (s .fits .x) (s .fits .y) (g .find .ensures) in
-    subst (DeleteSays _ _ _ _) (sym (c .found-answer .ensures))
-    (refused-delete _ _ _ (g .find .result) f (λ i q. not-first (c .before .match .keys2) (ap (tagOf the-type) q)))
-
-delete-at-requires : tie.Need-delete-at-requires
-delete-at-requires c κs =
-    let k = c .before .before in
-    let (f, h) = find-at _ _ _ _ _ (k .before .before .find .ensures) (k .f .given .1) in
-    (f, h .used)
+    let k = c .before in
+    let m = k .before .before in
+    let s = m .before .before in
+    delete-bits _ _ _ _ _ (s .fits .x) (s .fits .y) (DeleteSays.refuses (subst (DeleteDecides _ _ _) (k .d .given .1) (m .may-delete .ensures)) refl)
 
 same-length-2 : tie.Need-same-length-2
 same-length-2 c = search needs
 
 returns-2 : tie.Need-returns-2
 returns-2 c =
-    let a = c .before in
-    let k = a .before .before .before in
-    let g = k .before .before in
-    let s = g .before .before in
-    let (f, h) = find-at _ _ _ _ _ (find-bits _ _ _ _ (s .fits .x) (s .fits .y) (g .find .ensures)) (k .f .given .1) in
-    deletes-at _ _ _ _ _ _ f h (a .delete-at .ensures)
+    let r = c .before .before in
+    let k = r .before .before .before in
+    let m = k .before .before in
+    let s = m .before .before in
+    let a = subst (DeleteDecides _ _ _) (k .d2 .given .1) (m .may-delete .ensures) in
+    delete-bits _ _ _ _ _ (s .fits .x) (s .fits .y)
+    (subst (DeleteSays _ _ _ _) (sym (c .done .ensures)) (taken-says _ _ _ _ _ _ a (r .remove .ensures)))
 
 pub delete-spec : {M : Type 1} → statement M
 delete-spec =
     tie.close
     (tie.spec
-    find-requires
-    enum-known-f
-    found-answer-requires
+    may-delete-requires
+    enum-known-d
+    enum-known-d-2
+    remove-requires
+    done-requires
     same-length
     returns
-    delete-at-requires
     same-length-2
     returns-2)

@@ -1,5 +1,4 @@
 -- `ushanderi::host::ush_create` meets the promise of create. Assumes nothing.
-use mathlib.Core.Path.{refl}
 use Rattle.ruler.specs.Ruler.{ruler-bits}
 use Rattle.ushanderi.specs.ReadingAreas.{area-bits}
 use Rattle.ushanderi.specs.Editing.{create-same}
@@ -17,7 +16,7 @@ returns : tie.Need-returns
 returns c =
     let s = c .before .before .before in
     let e = area-bits _ _ _ _ (s .fits .left) (s .fits .bottom) (s .fits .right) (s .fits .top) in
-    create-same e (ruler-bits (s .args .label) (s .fits .label)) refl (c .before .create .ensures)
+    create-same e (ruler-bits (s .args .label) (s .fits .label)) (c .before .create .ensures)
 
 pub ush-create-spec : {M : Type 1} → statement M
 ush-create-spec = tie.close (tie.spec create-requires same-length returns)

@@ -1,12 +1,12 @@
 -- `ushanderi::layouts::load_all` meets its contract. The loop's invariant: the creates of the records before n are done. Assumes nothing.
-use denote.Enum.Declared.{tagOf}
-use Rattle.ushanderi.proofs.editing.Created.{the-type}
-use mathlib.Core.Path.{ap}
+use mathlib.Core.Path.{sym, ap, _∙_, subst}
 use Prim.Native.Nat.{_-_, _≤_}
 use native.Mathlib.Omega.{arith}
-use Rattle.ruler.specs.Ruler.{count-bits}
-use Rattle.ushanderi.specs.Editing.{created-low, create-length}
-use Rattle.ushanderi.specs.Layouts.{Loading, fresh-long, loading-none, loading-more, loading-low, load-done, load-refused, not-accepted}
+use lib.ListN.{length}
+use Rattle.table.specs.Fresh.{freshTable}
+use Rattle.ushanderi.specs.Promises.{LoadSays}
+use Rattle.ushanderi.specs.Editing.{CreateEnds}
+use Rattle.ushanderi.specs.Layouts.{Loading, fresh-long, loading-none, loading-more, loading-low, load-done, load-stopped}
 use borrow.Author.Needs.{needs}
 use Rattle.ushanderi.proofs.layouts.load_all.Statement.{statement}
 use Rattle.ushanderi.proofs.layouts.load_all.Tie as tie
@@ -33,31 +33,34 @@ load-one-requires c κs =
 enum-known-c : tie.Need-enum-known-c Inv-loop μ-loop
 enum-known-c c = search needs
 
+enum-known-c-2 : tie.Need-enum-known-c-2 Inv-loop μ-loop
+enum-known-c-2 c = search needs
+
 fresh-requires-2 : tie.Need-fresh-requires-2 Inv-loop μ-loop
 fresh-requires-2 c κs =
-    let o = c .before .before .before in
-    let l = o .before .before .before .loop .inv .0 in
-    omega (arith, l .fit .size .least, create-length _ _ _ _ _ (o .load-one .ensures))
+    let k = c .before .before in
+    let o = k .before .before .before in
+    let (_, w) = subst (CreateEnds _ _ _ _) (k .c2 .given .1) (o .load-one .ensures) in
+    omega (arith, o .before .before .before .loop .inv .0 .fit .size .least, ap length w)
 
-refused-at-requires : tie.Need-refused-at-requires Inv-loop μ-loop
-refused-at-requires c κs =
-    let o = c .before .before .before .before .before in
-    (created-low _ _ _ _ _ (o .load-one .ensures), loading-low _ _ _ _ _ (o .before .before .before .loop .inv .0))
+answered-requires : tie.Need-answered-requires Inv-loop μ-loop
+answered-requires c κs = loading-low _ _ _ _ _ (c .before .before .before .before .before .before .before .before .before .before .before .loop .inv .0)
 
 same-length : tie.Need-same-length Inv-loop μ-loop
 same-length c = search needs
 
 returns : tie.Need-returns Inv-loop μ-loop
 returns c =
-    let f = c .before .before in
-    let m = f .before .before in
-    let o = m .before .before in
+    let f = c .before .before .before in
+    let k = f .before .before .before in
+    let o = k .before .before .before in
     let a = o .before .before .before in
     let g = a .before .before in
     let s = g .before .before .before in
     let long = fresh-long (s .args .t .now) _ (s .pre .0) (g .fresh .ensures) in
-    load-refused (s .args .t .now) _ _ _ _ _ _ _ (o .load-one .result) _ (s .pre .0) (s .pre .1) long (a .loop .inv .0) (omega (arith, o .before .before .loop-test))
-    (o .load-one .ensures) (λ k q. not-accepted (m .match .keys2) (ap (tagOf the-type) q)) (f .fresh2 .ensures) (c .refused-at .ensures)
+    let (r, w) = subst (CreateEnds _ _ _ _) (k .c2 .given .1) (o .load-one .ensures) in
+    load-stopped _ _ _ _ _ (a .loop .inv .0) _ _ _ _ (s .pre .0) (s .pre .1) long (omega (arith, o .before .before .loop-test)) r
+    (f .fresh2 .ensures ∙ ap (λ t. freshTable (length t)) w) (c .answered .ensures)
 
 add-n : tie.Need-add-n Inv-loop μ-loop
 add-n c =
@@ -71,10 +74,11 @@ loop-again : tie.Need-loop-again Inv-loop μ-loop
 loop-again c =
     let o = c .before .before .before .before in
     let a = o .before .before .before in
-    (loading-more _ _ _ _ _ (a .loop .inv .0) _ _ _ (o .load-one .ensures) (c .before .c .given .1), omega (arith, o .before .before .loop-test))
+    let d = subst (CreateEnds _ _ _ _) (c .before .c .given .1) (o .load-one .ensures) in
+    (loading-more _ _ _ _ _ (a .loop .inv .0) _ _ d, omega (arith, o .before .before .loop-test))
 
-count-requires : tie.Need-count-requires Inv-loop μ-loop
-count-requires c κs = loading-low _ _ _ _ _ (c .before .loop .inv .0)
+done-requires : tie.Need-done-requires Inv-loop μ-loop
+done-requires c κs = loading-low _ _ _ _ _ (c .before .loop .inv .0)
 
 same-length-2 : tie.Need-same-length-2 Inv-loop μ-loop
 same-length-2 c = search needs
@@ -85,8 +89,7 @@ returns-2 c =
     let g = a .before .before in
     let s = g .before .before .before in
     let long = fresh-long (s .args .t .now) _ (s .pre .0) (g .fresh .ensures) in
-    let b = count-bits _ (c .count .result) (c .count .ensures) (count-requires (c .before) _) in
-    rw b (load-done _ _ _ _ _ (a .loop .inv .0) _ (s .pre .0) (s .pre .1) long (omega (arith, a .loop .inv .1)))
+    subst (LoadSays _ _ _) (sym (c .done .ensures)) (load-done _ _ _ _ _ (a .loop .inv .0) _ (s .pre .0) (s .pre .1) long (omega (arith, a .loop .inv .1)))
 
 pub load-all-spec : {M : Type 1} → statement M
 load-all-spec =
@@ -98,13 +101,14 @@ load-all-spec =
     loop-holds
     load-one-requires
     enum-known-c
+    enum-known-c-2
     fresh-requires-2
-    refused-at-requires
+    answered-requires
     same-length
     returns
     add-n
     loop-less
     loop-again
-    count-requires
+    done-requires
     same-length-2
     returns-2)

@@ -1,0 +1,109 @@
+-- `ushanderi::editing::may_create` meets its contract, check by check. Assumes nothing.
+use native.Mathlib.Omega.{arith}
+use Rattle.geometry.specs.Cases.{yes, no}
+use Rattle.ushanderi.specs.Promises.{CreateRefuses}
+use Rattle.ushanderi.specs.Reading.{fit-forms}
+use Rattle.ushanderi.specs.ReadingAreas.{searches-low}
+use Rattle.ushanderi.specs.Editing.{searches-free, searches-met, laid-full}
+use borrow.Author.Needs.{needs}
+use Rattle.ushanderi.proofs.editing.may_create.Statement.{statement}
+use Rattle.ushanderi.proofs.editing.may_create.Tie as tie
+
+rect-right-requires : tie.Need-rect-right-requires
+rect-right-requires c κs = search needs
+
+refused-requires : tie.Need-refused-requires
+refused-requires c κs = search needs
+
+returns : tie.Need-returns
+returns c =
+    let k = c .before .before in
+    let s = k .before .before in
+    CreateRefuses.label (s .pre .fit) (yes (k .before .rect-right .ensures) (k .if1 .taken)) (c .before .if2 .taken) (c .refused .ensures)
+
+search-requires : tie.Need-search-requires
+search-requires c κs =
+    let k = c .before in
+    let f = k .before .before .pre .fit in
+    (fit-forms _ f, (f .size, (k .before .before .pre .used, yes (k .before .rect-right .ensures) (k .if1 .taken))))
+
+enum-known-s : tie.Need-enum-known-s
+enum-known-s c = search needs
+
+answered-requires : tie.Need-answered-requires
+answered-requires c κs =
+    let r = c .before .before .before in
+    searches-low _ _ _ _ _ _ (r .before .before .before .before .pre .fit .size) (r .search .ensures) (c .before .s .given .1)
+
+returns-2 : tie.Need-returns-2
+returns-2 c =
+    let m = c .before .before in
+    let r = m .before .before in
+    let l = r .before in
+    let k = l .before in
+    let s = k .before .before in
+    CreateRefuses.occupied (s .pre .fit) (yes (k .before .rect-right .ensures) (k .if1 .taken)) (l .if2 .left) _ _ _
+    (searches-met _ _ _ _ _ _ (r .search .ensures) (m .s .given .1)) (c .answered .ensures)
+
+enum-told : tie.Need-enum-told
+enum-told c = search needs
+
+capacity-requires : tie.Need-capacity-requires
+capacity-requires c κs = search needs
+
+returns-3 : tie.Need-returns-3
+returns-3 c =
+    let n = c .before .before in
+    let r = n .before .before in
+    let l = r .before in
+    let k = l .before in
+    let s = k .before .before in
+    record {
+      fit = s .pre .fit;
+      rect = yes (k .before .rect-right .ensures) (k .if1 .taken);
+      named = l .if2 .left;
+      free = searches-free _ _ _ (r .search .ensures) (n .enum-told .given .1);
+      few = omega (arith, s .pre .number, c .before .capacity .ensures, c .if3 .taken);
+    }
+
+refused-requires-2 : tie.Need-refused-requires-2
+refused-requires-2 c κs = search needs
+
+returns-4 : tie.Need-returns-4
+returns-4 c =
+    let f = c .before in
+    let n = f .before .before in
+    let r = n .before .before in
+    let l = r .before in
+    let k = l .before in
+    let s = k .before .before in
+    CreateRefuses.full (s .pre .fit) (yes (k .before .rect-right .ensures) (k .if1 .taken)) (l .if2 .left)
+    (searches-free _ _ _ (r .search .ensures) (n .enum-told .given .1))
+    (laid-full _ (s .pre .fit) (omega (arith, s .pre .number, f .before .capacity .ensures, f .if3 .left))) (c .refused2 .ensures)
+
+refused-requires-3 : tie.Need-refused-requires-3
+refused-requires-3 c κs = search needs
+
+returns-5 : tie.Need-returns-5
+returns-5 c =
+    let k = c .before in
+    CreateRefuses.rect (k .before .before .pre .fit) (no (k .before .rect-right .ensures) (k .if1 .left)) (c .refused3 .ensures)
+
+pub may-create-spec : {M : Type 1} → statement M
+may-create-spec =
+    tie.close
+    (tie.spec
+    rect-right-requires
+    refused-requires
+    returns
+    search-requires
+    enum-known-s
+    answered-requires
+    returns-2
+    enum-told
+    capacity-requires
+    returns-3
+    refused-requires-2
+    returns-4
+    refused-requires-3
+    returns-5)

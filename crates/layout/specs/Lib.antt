@@ -1,4 +1,4 @@
--- Saved layouts and the lister's text: the reader's pages are Bytes, Order and Text.
+-- Saved layouts: the reader's pages are Bytes and Order.
 pub mod Patch
 pub mod Bytes
 pub mod BytesLaws
@@ -6,7 +6,5 @@ pub mod Order
 pub mod Keys
 pub mod Saving
 pub mod OneOrder
-pub mod Text
-pub mod TextLaws
 pub mod RoundTrip
 pub mod Examples

@@ -21,7 +21,7 @@ use Rattle.seek.specs.Meaning.{Area, Directed}
 use Rattle.seek.specs.Once.{times, times-here, times-other, directed-short}
 use Rattle.seek.specs.Order.{directed-lists}
 use Rattle.layout.specs.Patch.{patch-none, patch-start, Puts, puts-then}
-use Rattle.layout.specs.Text.{lineOf, refusedLine}
+use Rattle.lister.specs.Text.{lineOf, refusedLine}
 use Rattle.ushanderi.specs.Answers.{DONE, answered, accepted}
 use Rattle.ushanderi.specs.Promises.{Unfit, Fit, EnumerateSays, LoadSays, listed}
 use Rattle.ushanderi.specs.Reading.{rulerArea, fit-forms}

@@ -1,4 +1,6 @@
 // The lister's text: the lines of the plane that a saved layout loads as, or the line of a refused load.
+use crate::text::put_line;
+use crate::text::put_refused;
 use table::numbers::ZERO;
 use ushanderi::answer::DONE;
 ghost use mathlib.Core.Path.{_≡_};
@@ -9,7 +11,7 @@ ghost use Rattle.ruler.specs.Ruler.{ruler};
 ghost use Rattle.geometry.specs.Picture.{ZERO};
 ghost use Rattle.table.specs.Words.{recordsOf, tileOf};
 ghost use Rattle.layout.specs.Patch.{Puts};
-ghost use Rattle.layout.specs.Text.{lineOf};
+ghost use Rattle.lister.specs.Text.{lineOf};
 ghost use Rattle.ushanderi.specs.Promises.{Fit};
 ghost use Rattle.lister.specs.Sizes.{LINE, Sized};
 ghost use Rattle.lister.specs.Listing.{entry, Records, linesAt, ListsPlane, PutsPlane, Lists};
@@ -36,7 +38,7 @@ fn put_tile(t: &[i32], i: usize, out: &mut [u8], at: usize) -> usize
     ensures { λ r. ⌜ r ≤ at + LINE ⌝ }
 {
     let v = table::read(t, i);
-    layout::put_line(out, at, v.kind, v.label, v.left, v.bottom, v.right, v.top)
+    put_line(out, at, v.kind, v.label, v.left, v.bottom, v.right, v.top)
 }
 
 // The lines of the tiles that a list names.
@@ -86,6 +88,6 @@ pub(crate) fn list(t: &mut [i32], bytes: &[u8], list: &mut [i32], out: &mut [u8]
     if a.number == DONE {
         put_plane(t, list, out)
     } else {
-        layout::put_refused(out, 0, ruler::at(a.number), ruler::at(a.value))
+        put_refused(out, 0, ruler::at(a.number), ruler::at(a.value))
     }
 }

@@ -1,6 +1,7 @@
 // The lister: a saved layout on standard input, the tiles of its plane on standard output, one a line.
 mod input;
 mod listing;
+mod text;
 
 use input::Input;
 use libc::STDOUT_FILENO;

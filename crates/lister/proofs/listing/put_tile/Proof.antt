@@ -1,7 +1,7 @@
 -- `lister::listing::put_tile` meets its contract: the line is that of the record read. Assumes nothing.
 use mathlib.Core.Path.{ap, subst}
 use Rattle.layout.specs.Patch.{Puts}
-use Rattle.layout.specs.Text.{lineOf}
+use Rattle.lister.specs.Text.{lineOf}
 use Rattle.lister.specs.Listing.{tile-read}
 use borrow.Author.Needs.{needs}
 use Rattle.lister.proofs.listing.put_tile.Statement.{statement}

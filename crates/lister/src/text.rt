@@ -5,8 +5,8 @@ ghost use mathlib.Core.Path.{_≡_};
 ghost use mathlib.Core.List.{[], _∷_, _++_};
 ghost use Prim.Native.Nat.{_+_, _≤_, _<_, _^_};
 ghost use lib.ListN.{length};
 ghost use Rattle.layout.specs.Patch.{Puts};
-ghost use Rattle.layout.specs.Text.{decimal, glyph, signedText, spaced, kindText, lineOf, refusedLine};
+ghost use Rattle.lister.specs.Text.{decimal, glyph, signedText, spaced, kindText, lineOf, refusedLine};
 
 fn put_byte(out: &mut [u8], at: usize, b: u8) -> usize
     requires { ⌜ at < length (now out) ⌝ }
@@ -48,7 +48,7 @@ fn put_decimal(out: &mut [u8], at: usize, n: u64) -> usize
 }
 
 // The signed word whose ruler number is w.
-pub fn put_number(out: &mut [u8], at: usize, w: u64) -> usize
+fn put_number(out: &mut [u8], at: usize, w: u64) -> usize
     requires { ⌜ at + 11 ≤ length (now out) ⌝ }
     requires { ⌜ w < 2 ^ 32 ⌝ }
     ensures { λ r. ⌜ Puts (now (out .entry)) (now (out .exit)) at (signedText w) r ⌝ }
@@ -93,7 +93,7 @@ fn put_kind(out: &mut [u8], at: usize, kind: u64) -> usize
 }
 
 // A tile's line.
-pub fn put_line(
+pub(crate) fn put_line(
     out: &mut [u8],
     at: usize,
     kind: u64,
@@ -116,7 +116,7 @@ pub fn put_line(
 }
 
 // The line of a refused load: number and value are words on the ruler.
-pub fn put_refused(out: &mut [u8], at: usize, number: u64, value: u64) -> usize
+pub(crate) fn put_refused(out: &mut [u8], at: usize, number: u64, value: u64) -> usize
     requires { ⌜ at + 80 ≤ length (now out) ⌝ }
     requires { ⌜ (number < 2 ^ 32) × (value < 2 ^ 32) ⌝ }
     ensures { λ r. ⌜ Puts (now (out .entry)) (now (out .exit)) at (refusedLine number value) r ⌝ }

@@ -1,9 +1,9 @@
--- `layout::text::put_byte` meets its contract: one store is a patch of one byte. Assumes nothing.
+-- `lister::text::put_byte` meets its contract: one store is a patch of one byte. Assumes nothing.
 use native.Mathlib.Omega.{arith}
 use Rattle.layout.specs.Patch.{puts-one}
 use borrow.Author.Needs.{needs}
-use Rattle.layout.proofs.text.put_byte.Statement.{statement}
-use Rattle.layout.proofs.text.put_byte.Tie as tie
+use Rattle.lister.proofs.text.put_byte.Statement.{statement}
+use Rattle.lister.proofs.text.put_byte.Tie as tie
 
 slice-write-out : tie.Need-slice-write-out
 slice-write-out c = search needs

@@ -1,11 +1,11 @@
--- `layout::text::put_number` meets its contract: a sign and digits, or digits. Assumes nothing.
+-- `lister::text::put_number` meets its contract: a sign and digits, or digits. Assumes nothing.
 use Prim.Native.Nat.{_+_, _-_, _≤_}
 use native.Mathlib.Omega.{arith}
 use denote.Ref.{now}
-use Rattle.layout.specs.TextLaws.{decimal-word, puts-minus, puts-plus}
+use Rattle.lister.specs.TextLaws.{decimal-word, puts-minus, puts-plus}
 use borrow.Author.Needs.{needs}
-use Rattle.layout.proofs.text.put_number.Statement.{statement}
-use Rattle.layout.proofs.text.put_number.Tie as tie
+use Rattle.lister.proofs.text.put_number.Statement.{statement}
+use Rattle.lister.proofs.text.put_number.Tie as tie
 
 put-byte-requires : tie.Need-put-byte-requires
 put-byte-requires c κs = search needs

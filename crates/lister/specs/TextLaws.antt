@@ -9,8 +9,8 @@ use lib.ListN.{length, length-append}
 use borrow.Author.Tests.{lt-ltb, le-ltb, eq-eqb, ne-eqb}
 use Rattle.geometry.specs.Cases.{lt-cases}
 use Rattle.geometry.specs.Picture.{ZERO, SOLID, Tile}
 use Rattle.layout.specs.Patch.{Puts, puts-then}
-use Rattle.layout.specs.Text.{glyph, digitsBy, decimal, signedText, spaced, solidText, spaceText, kindText, newline, lineOf, refusedText, refusedLine}
+use Rattle.lister.specs.Text.{glyph, digitsBy, decimal, signedText, spaced, solidText, spaceText, kindText, newline, lineOf, refusedText, refusedLine}
 
 -- ---- digits
 

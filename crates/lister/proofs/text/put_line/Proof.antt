@@ -1,11 +1,11 @@
--- `layout::text::put_line` meets its contract: the pieces of a line, one behind the other. Assumes nothing.
+-- `lister::text::put_line` meets its contract: the pieces of a line, one behind the other. Assumes nothing.
 use Prim.Native.Nat.{_+_, _≤_}
 use native.Mathlib.Omega.{arith}
 use denote.Ref.{now}
-use Rattle.layout.specs.TextLaws.{puts-line}
+use Rattle.lister.specs.TextLaws.{puts-line}
 use borrow.Author.Needs.{needs}
-use Rattle.layout.proofs.text.put_line.Statement.{statement}
-use Rattle.layout.proofs.text.put_line.Tie as tie
+use Rattle.lister.proofs.text.put_line.Statement.{statement}
+use Rattle.lister.proofs.text.put_line.Tie as tie
 
 put-kind-requires : tie.Need-put-kind-requires
 put-kind-requires c κs = search needs

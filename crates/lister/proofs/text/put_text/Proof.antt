@@ -1,4 +1,4 @@
--- `layout::text::put_text` meets its contract: i bytes of the text are written. Assumes nothing.
+-- `lister::text::put_text` meets its contract: i bytes of the text are written. Assumes nothing.
 use mathlib.Core.Path.{_≡_, refl, ap, _∙_}
 use Prim.Native.Nat.{_+_, _-_, _≤_, _<_}
 use native.Mathlib.Omega.{arith}
@@ -6,9 +6,9 @@ use borrow.Author.Needs.{needs}
 use denote.Ref.{now}
 use lib.ListN.{length, length-set}
 use lib.Seq.{paste, paste-zero}
 use Rattle.layout.specs.Patch.{pasted-more, pasted-all}
-use Rattle.layout.proofs.text.put_text.Statement.{statement}
-use Rattle.layout.proofs.text.put_text.Tie as tie
+use Rattle.lister.proofs.text.put_text.Statement.{statement}
+use Rattle.lister.proofs.text.put_text.Tie as tie
 
 abbrev Inv-loop : tie.InvT-loop
 Inv-loop out₀ at text i₀ out i = (i ≤ length text) × (length out ≡ length out₀) × (out ≡ paste out₀ at text i)

@@ -1,9 +1,9 @@
--- `layout::text::put_kind` meets its contract: the word of the kind. Assumes nothing.
+-- `lister::text::put_kind` meets its contract: the word of the kind. Assumes nothing.
 use denote.Ref.{now}
-use Rattle.layout.specs.TextLaws.{puts-solid, puts-space}
+use Rattle.lister.specs.TextLaws.{puts-solid, puts-space}
 use borrow.Author.Needs.{needs}
-use Rattle.layout.proofs.text.put_kind.Statement.{statement}
-use Rattle.layout.proofs.text.put_kind.Tie as tie
+use Rattle.lister.proofs.text.put_kind.Statement.{statement}
+use Rattle.lister.proofs.text.put_kind.Tie as tie
 
 slice-aggregate-put-text : tie.Need-slice-aggregate-put-text
 slice-aggregate-put-text c = search needs

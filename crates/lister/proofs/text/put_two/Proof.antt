@@ -1,12 +1,12 @@
--- `layout::text::put_two` meets its contract: one number, then the other. Assumes nothing.
+-- `lister::text::put_two` meets its contract: one number, then the other. Assumes nothing.
 use Prim.Native.Nat.{_+_, _≤_}
 use native.Mathlib.Omega.{arith}
 use denote.Ref.{now}
-use Rattle.layout.specs.Text.{spaced}
+use Rattle.lister.specs.Text.{spaced}
 use Rattle.layout.specs.Patch.{puts-then}
 use borrow.Author.Needs.{needs}
-use Rattle.layout.proofs.text.put_two.Statement.{statement}
-use Rattle.layout.proofs.text.put_two.Tie as tie
+use Rattle.lister.proofs.text.put_two.Statement.{statement}
+use Rattle.lister.proofs.text.put_two.Tie as tie
 
 put-spaced-requires : tie.Need-put-spaced-requires
 put-spaced-requires c κs = search needs

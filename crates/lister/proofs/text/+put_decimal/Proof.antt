@@ -1,17 +1,17 @@
--- `layout::text::put_decimal` meets its contract: the digits before the last, then the last; the number falls. Assumes nothing.
+-- `lister::text::put_decimal` meets its contract: the digits before the last, then the last; the number falls. Assumes nothing.
 use mathlib.Core.Path.{_∙_}
 use native.Mathlib.Omega.{arith}
 use denote.Ref.{now}
-use Rattle.layout.specs.TextLaws.{length-low, length-more, puts-low, puts-more}
+use Rattle.lister.specs.TextLaws.{length-low, length-more, puts-low, puts-more}
 use Prim.Native.Nat.{ℕ, _<_}
 use borrow.Fn.Kinds.{In}
 use borrow.Fn.PlainCycle.{Measures, is, falls, and}
-use Rattle.layout.proofs.text.put_decimal.Reads as put-decimal
-use Rattle.layout.proofs.text.put_decimal.Kinds as put-decimal-kinds
-use Rattle.layout.proofs.text.+put_decimal.Lts-put_decimal as put-decimal-lts
-use Rattle.layout.proofs.text.put_digit.Reads as put-digit-reads
-use Rattle.layout.proofs.text.+put_decimal.{statement}
-use Rattle.layout.proofs.text.+put_decimal.Tie.{close}
+use Rattle.lister.proofs.text.put_decimal.Reads as put-decimal
+use Rattle.lister.proofs.text.put_decimal.Kinds as put-decimal-kinds
+use Rattle.lister.proofs.text.+put_decimal.Lts-put_decimal as put-decimal-lts
+use Rattle.lister.proofs.text.put_digit.Reads as put-digit-reads
+use Rattle.lister.proofs.text.+put_decimal.{statement}
+use Rattle.lister.proofs.text.+put_decimal.Tie.{close}
 
 abbrev μ-put-decimal : Measures 1 put-decimal-kinds.ps ℕ
 μ-put-decimal κs a = a .1 .1 .0

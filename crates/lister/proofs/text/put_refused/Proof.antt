@@ -1,11 +1,11 @@
--- `layout::text::put_refused` meets its contract: the pieces of the line, one behind the other. Assumes nothing.
+-- `lister::text::put_refused` meets its contract: the pieces of the line, one behind the other. Assumes nothing.
 use Prim.Native.Nat.{_+_, _≤_}
 use native.Mathlib.Omega.{arith}
 use denote.Ref.{now}
-use Rattle.layout.specs.TextLaws.{puts-refused}
+use Rattle.lister.specs.TextLaws.{puts-refused}
 use borrow.Author.Needs.{needs}
-use Rattle.layout.proofs.text.put_refused.Statement.{statement}
-use Rattle.layout.proofs.text.put_refused.Tie as tie
+use Rattle.lister.proofs.text.put_refused.Statement.{statement}
+use Rattle.lister.proofs.text.put_refused.Tie as tie
 
 slice-aggregate-put-text : tie.Need-slice-aggregate-put-text
 slice-aggregate-put-text c = search needs

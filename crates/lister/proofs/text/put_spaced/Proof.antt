@@ -1,11 +1,11 @@
--- `layout::text::put_spaced` meets its contract: a space, then the number. Assumes nothing.
+-- `lister::text::put_spaced` meets its contract: a space, then the number. Assumes nothing.
 use Prim.Native.Nat.{_+_, _≤_}
 use native.Mathlib.Omega.{arith}
 use denote.Ref.{now}
-use Rattle.layout.specs.TextLaws.{puts-spaced}
+use Rattle.lister.specs.TextLaws.{puts-spaced}
 use borrow.Author.Needs.{needs}
-use Rattle.layout.proofs.text.put_spaced.Statement.{statement}
-use Rattle.layout.proofs.text.put_spaced.Tie as tie
+use Rattle.lister.proofs.text.put_spaced.Statement.{statement}
+use Rattle.lister.proofs.text.put_spaced.Tie as tie
 
 put-byte-requires : tie.Need-put-byte-requires
 put-byte-requires c κs = search needs

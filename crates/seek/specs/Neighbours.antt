@@ -3,11 +3,11 @@ use mathlib.Core.Path.{_≡_}
 use mathlib.Core.List.{List}
 use Prim.Native.Nat.{ℕ, zero, suc, _≤_, _<_}
 use lib.IntN.{ℤ}
-use lib.ListN.{length, getD}
 use Rattle.geometry.specs.Picture.{Tile}
 use Rattle.geometry.specs.Turns.{Side, top, right, bottom, left}
 use Rattle.table.specs.Words.{tileOf}
 use Rattle.table.specs.Sound.{UsedIn}
+use Rattle.seek.specs.Meaning.{Lists}
 
 -- the sides by 01's numbers: 0 right, 1 left, 2 top, 3 bottom
 unfoldable pub sideOf : ℕ → Side
@@ -41,7 +41,5 @@ pub record Neighbour (t : List ℤ) (s : Side) (i k : ℕ) : Type 0 where
   pub touches : Touches s (tileOf t i) (tileOf t k)
 
 -- the list of all neighbours of record i on side s, in order
-pub record Neighbours (t : List ℤ) (s : Side) (i : ℕ) (L : List ℕ) : Type 0 where
-  pub each : (n : ℕ) → n < length L → Neighbour t s i (getD L n 0)
-  pub all : (k : ℕ) → Neighbour t s i k → (n : ℕ) × (n < length L) × (getD L n 0 ≡ k)
-  pub order : (m n : ℕ) → m < n → n < length L → Before s (tileOf t (getD L m 0)) (tileOf t (getD L n 0))
+abbrev pub Neighbours : List ℤ → Side → ℕ → List ℕ → Type 0
+Neighbours t s i = Lists (Neighbour t s i) (λ j k. Before s (tileOf t j) (tileOf t k))

@@ -8,10 +8,12 @@ use Prim.Native.Nat.{ℕ, zero, suc, _+_, _*_, _/_, _≤_}
 use lib.IntN.{ℤ, pos}
 use lib.ListN.{length, getD}
 use lib.Dec.{leb, ltb}
+use denote.Ref.{now}
 use Rattle.geometry.specs.Picture.{ZERO, SPACE, InPlane, Tile, Solids, Strip}
 use Rattle.geometry.specs.Tiling.{Holder}
 use Rattle.table.specs.Words.{LEFT, BOTTOM, RIGHT, TOP, KIND, recordsOf, num, tileOf}
 use Rattle.table.specs.Sound.{SizeRight, Sound, SoundFor, UsedIn, Stitched, capacity, solidsIn, spacesIn}
+use Rattle.table.specs.View.{Slice}
 use Rattle.seek.specs.Meaning.{Area}
 use Rattle.layout.specs.Bytes.{savedAt}
 use Rattle.ushanderi.specs.Answers.{DONE, SIZE, FILE}
@@ -71,7 +73,7 @@ pub data Step (t : List ℤ) (S : List Tile) : List ℤ → List Tile → Type 0
   delete : {x y : ℕ} {t′ : List ℤ} {i : ℕ} → DeleteDone t x y t′ i → Step t S t′ (without x y S)
   delete-refused : {x y : ℕ} {a : Answer} → DeleteRefuses t x y a → Step t S t S
   check : {a : Answer} → CheckSays t a → Step t S t S
-  view : {index : ℤ} {part : List ℤ} → ViewSays t index part → Step t S t S
+  view : {lent part : Slice} {index : ℤ} → now lent ≡ t → ViewSays lent index part → Step t S t S
   find : {x y : ℕ} {a : Answer} → FindSays t x y a → Step t S t S
   neighbours : {x y : ℕ} {side : ℤ} {out out′ : List ℤ} {a : Answer} → NeighboursSays t x y side out out′ a → Step t S t S
   search : {A : Area} {a : Answer} → SearchSays t A a → Step t S t S

@@ -145,7 +145,7 @@ step-shown t t′ S S′ k (Step.create-refused r) = k
 step-shown t t′ S S′ k (Step.delete {x = x} {y = y} {i = i} d) = delete-shown t S k x y t′ i d
 step-shown t t′ S S′ k (Step.delete-refused r) = k
 step-shown t t′ S S′ k (Step.check c) = k
-step-shown t t′ S S′ k (Step.view c) = k
+step-shown t t′ S S′ k (Step.view e c) = k
 step-shown t t′ S S′ k (Step.find c) = k
 step-shown t t′ S S′ k (Step.neighbours c) = k
 step-shown t t′ S S′ k (Step.search c) = k

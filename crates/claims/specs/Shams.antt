@@ -2,24 +2,26 @@
 use mathlib.Core.Path.{_≡_, refl, sym, ap, subst}
 use mathlib.Core.Logic.{_≢_}
 use mathlib.Core.List.{List, _∷_, List·Memᴰ·head, List·Memᴰ·tail}
-use Prim.Native.Nat.{ℕ, _≤_, _<_}
+use Prim.Native.Nat.{ℕ, _*_, _≤_, _<_}
 use native.Mathlib.Omega.{arith}
 use lib.IntN.{ℤ, pos, negsuc}
 use lib.ListN.{length}
+use denote.Ref.{now}
 use Rattle.ruler.specs.Ruler.{ruler}
 use Rattle.geometry.specs.Cases.{lt-cases}
 use Rattle.geometry.specs.Picture.{ZERO, InPlane, Tile, Has}
 use Rattle.geometry.specs.Tiling.{one-holder}
-use Rattle.table.specs.Words.{recordsOf, tileOf}
+use Rattle.table.specs.Words.{WIDTH, recordsOf, tileOf}
 use Rattle.table.specs.Sound.{SizeRight, capacity, solidsIn}
+use Rattle.table.specs.View.{Places, Slice, IsPart}
 use Rattle.seek.specs.Meaning.{SolidIn, Area, InArea, RectRight, FreeArea, Directed}
 use Rattle.seek.specs.Find.{Finds}
 use Rattle.ushanderi.specs.Answers.{DONE, SIZE, UNSOUND, RECT, SHORT, answered, accepted, nothing}
 use Rattle.ushanderi.specs.declared.answer.Answer.{Answer}
-use Rattle.ushanderi.specs.Promises.{Unfit, Fit, FreshSays, CheckSays, FindSays, listed, SearchSays, EnumerateSays, CreateSays, DeleteSays}
+use Rattle.ushanderi.specs.Promises.{Unfit, Fit, FreshSays, CheckSays, ViewSays, FindSays, listed, SearchSays, EnumerateSays, CreateSays, DeleteSays}
 use Rattle.claims.specs.AgreeChecks.{fit-forms, not-fit, number-is}
 use Rattle.claims.specs.AgreePicture.{Shows}
-use Rattle.claims.specs.AgreeReads.{check-agrees, enumerate-agrees}
+use Rattle.claims.specs.AgreeReads.{check-agrees, view-placed, enumerate-agrees}
 use Rattle.claims.specs.AgreeCreate.{Created, create-done}
 use Rattle.claims.specs.AgreeDelete.{delete-done}
 use Rattle.claims.specs.History.{Among, Distinct, History}
@@ -157,3 +159,11 @@ module _ (t : List ℤ) (R : Area) (f : Fit t) (r : RectRight R) (ks : List ℕ)
 
   pub not-invented : (number count : ℕ) → count ≢ length ks → EnumerateSays t R out out′ (answered number count) → ⊥
   not-invented number count n s = n (count-fixed number count s)
+
+-- ---- one whose view gives the part of another record, which may hold the same words
+
+pub own-part : (lent part : Slice) (i j : ℕ) → SizeRight (now lent) → i < recordsOf (now lent) → ViewSays lent (pos i) part
+    → IsPart lent (WIDTH * j) WIDTH part → i ≢ j → ⊥
+own-part lent part i j s h v p n =
+    let q = view-placed lent (pos i) part (WIDTH * i) WIDTH v (Places.there i (record { size = s; below = h; is = refl }) refl refl) in
+    n (omega (arith, p .byte, q .byte))

@@ -1,5 +1,6 @@
 -- Agreement, call by call: two answers that a promise allows for the same table and arguments are equal, and so is what they leave. Where 01 leaves open
--- which records a create or a load gives to new solids, and which a create, delete or load gives to space tiles, the pictures agree. Assumes nothing.
+-- which records a create or a load gives to new solids, and which a create, delete or load gives to space tiles, the tables agree but for these numbers.
+-- Assumes nothing.
 use mathlib.Core.Path.{_≡_}
 use mathlib.Core.List.{List}
 use Prim.Native.Nat.{ℕ}

@@ -1,7 +1,7 @@
 -- What an allowed answer has to be on a fit table of which the facts are known. Assumes nothing.
 use mathlib.Core.Path.{_≡_, refl, ap, _∙_, subst}
 use mathlib.Core.List.{List}
-use Prim.Native.Nat.{ℕ, _-_, _≤_, _<_}
+use Prim.Native.Nat.{ℕ, _-_, _*_, _≤_, _<_}
 use native.Mathlib.Omega.{arith}
 use lib.IntN.{ℤ, pos}
 use lib.ListN.{length}
@@ -14,13 +14,20 @@ use Rattle.seek.specs.Meaning.{SolidIn, Area, RectRight, FreeArea, First, Direc
 use Rattle.seek.specs.Find.{Finds}
 use Rattle.seek.specs.Neighbours.{sideOf, Neighbours}
 use Rattle.seek.specs.Search.{first-one, free-no-first}
+use Rattle.layout.specs.Order.{Saves}
+use Rattle.layout.specs.OneOrder.{order-length, saves-bytes}
 use Rattle.ushanderi.specs.Answers.{OCCUPIED, FULL, POINT, SPACE, answered, accepted, refused, nothing}
 use Rattle.ushanderi.specs.declared.answer.Answer.{Answer}
-use Rattle.ushanderi.specs.Promises.{Fit, FindSays, listed, NeighboursSays, SearchSays, EnumerateSays, CreateRefuses, CreateSays, DeleteRefuses, DeleteDone, DeleteSays}
+use Rattle.ushanderi.specs.Promises.{Fit, FindSays, listed, NeighboursSays, SearchSays, EnumerateSays, CreateRefuses, CreateSays, DeleteRefuses, DeleteDone, DeleteSays, SaveSays}
 use Rattle.claims.specs.AgreeChecks.{not-fit, fit-forms, fit-finds-one, finds-inside}
 use Rattle.claims.specs.AgreeCreate.{Created}
 use Rattle.claims.specs.AgreeReads.{find-agrees, neighbours-agrees, search-agrees, enumerate-agrees}
 use Rattle.claims.specs.HistoryExact.{never-room}
+
+-- what an accepted save says
+pub record Saved (t : List ℤ) (out out′ : List ℕ) (a : Answer) : Type 0 where
+  pub is : a ≡ accepted (20 * solidsIn t)
+  pub saves : Saves t out out′ (20 * solidsIn t)
 
 module _ (t : List ℤ) (f : Fit t) where
   -- ---- reading
@@ -97,3 +104,12 @@ module _ (t : List ℤ) (f : Fit t) where
     is-space s (DeleteSays.refuses (DeleteRefuses.space g j k c e) q) = (e, q)
     is-space s (DeleteSays.refuses (DeleteRefuses.room g j k c n e) q) = absurd (one-kind j i (fit-finds-one t f x y j i k h) c s)
     is-space s (DeleteSays.done j d e) = absurd (one-kind j i (fit-finds-one t f x y j i (d .allows .finds) h) (d .allows .solid) s)
+
+  -- ---- save
+
+  pub saves : (out out′ : List ℕ) (a : Answer) → 20 * solidsIn t ≤ length out → SaveSays t out out′ a → Saved t out out′ a
+  saves out out′ a l (SaveSays.unfit u e) = absurd (not-fit t a u f)
+  saves out out′ a l (SaveSays.short g ks s h e w) = absurd (omega (arith, order-length t ks s))
+  saves out out′ a l (SaveSays.done g n s h e) =
+      let q = saves-bytes t out out′ n s in
+      record { is = e ∙ ap accepted q; saves = subst (Saves t out out′) q s }

@@ -2,6 +2,8 @@
 pub mod AgreeChecks
 pub mod AgreeReads
 pub mod AgreePicture
+pub mod Pictures
+pub mod AgreeTables
 pub mod AgreeCreate
 pub mod AgreeDelete
 pub mod AgreeLoad
@@ -11,7 +13,6 @@ pub mod HistoryAccount
 pub mod HistoryCalls
 pub mod HistoryKept
 pub mod HistoryExact
-pub mod Pictures
 pub mod Renamed
 pub mod Draws
 pub mod Tests

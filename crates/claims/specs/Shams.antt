@@ -16,9 +16,10 @@ use Rattle.table.specs.Sound.{SizeRight, capacity, solidsIn}
 use Rattle.table.specs.View.{Places, Slice, IsPart}
 use Rattle.seek.specs.Meaning.{SolidIn, Area, InArea, RectRight, FreeArea, Directed}
 use Rattle.seek.specs.Find.{Finds}
+use Rattle.seek.specs.Neighbours.{sideOf, Neighbours}
 use Rattle.ushanderi.specs.Answers.{DONE, SIZE, UNSOUND, RECT, SHORT, answered, accepted, nothing}
 use Rattle.ushanderi.specs.declared.answer.Answer.{Answer}
-use Rattle.ushanderi.specs.Promises.{Unfit, Fit, FreshSays, CheckSays, ViewSays, FindSays, listed, SearchSays, EnumerateSays, CreateSays, DeleteSays}
+use Rattle.ushanderi.specs.Promises.{Unfit, Fit, FreshSays, CheckSays, ViewSays, FindSays, listed, NeighboursSays, SearchSays, EnumerateSays, CreateSays, DeleteSays, SaveSays}
 use Rattle.claims.specs.AgreeChecks.{fit-forms, not-fit, number-is}
 use Rattle.claims.specs.AgreePicture.{Shows}
 use Rattle.claims.specs.AgreeReads.{check-agrees, view-placed, enumerate-agrees}
@@ -28,7 +29,7 @@ use Rattle.claims.specs.History.{Among, Distinct, History}
 use Rattle.claims.specs.HistoryKept.{history-kept}
 use Rattle.claims.specs.Draws.{Draws, areaOf}
 use Rattle.claims.specs.Tables.{area, A, B, C}
-use Rattle.claims.specs.Allowed.{find-is, search-free, creates, deletes}
+use Rattle.claims.specs.Allowed.{find-is, search-free, creates, deletes, saves}
 use Rattle.claims.specs.Examples.{ABC}
 use Rattle.claims.specs.ExamplesHold.{second-done, after-A}
 
@@ -45,10 +46,17 @@ pub record NoRefusal : Type 0 where
   pub fresh : (t t′ : List ℤ) (a : Answer) → SizeRight t → FreshSays t t′ a → Refuses a → ⊥
   pub check : (t : List ℤ) (a : Answer) → Fit t → CheckSays t a → Refuses a → ⊥
   pub find : (t : List ℤ) (x y : ℕ) (a : Answer) → Fit t → InPlane x y → FindSays t x y a → Refuses a → ⊥
+  -- the lent list is not shorter than needed
+  pub neighbours : (t : List ℤ) (x y s : ℕ) (out out′ : List ℤ) (a : Answer) → Fit t → InPlane x y → s < 4
+      → ((i : ℕ) (ks : List ℕ) → Finds t x y i → Neighbours t (sideOf s) i ks → length ks ≤ length out)
+      → NeighboursSays t x y (pos s) out out′ a → Refuses a → ⊥
   pub search : (t : List ℤ) (R : Area) (a : Answer) → Fit t → RectRight R → SearchSays t R a → Refuses a → ⊥
+  pub enumerate : (t : List ℤ) (R : Area) (out out′ : List ℤ) (a : Answer) → Fit t → RectRight R
+      → ((ks : List ℕ) → Directed t R ks → length ks ≤ length out) → EnumerateSays t R out out′ a → Refuses a → ⊥
   pub create : (t : List ℤ) (R : Area) (label : ℕ) (t′ : List ℤ) (a : Answer) → Fit t → RectRight R → ZERO < label → FreeArea t R
       → solidsIn t < capacity (recordsOf t) → CreateSays t R label t′ a → Refuses a → ⊥
   pub delete : (t : List ℤ) (x y i : ℕ) (t′ : List ℤ) (a : Answer) → Fit t → Finds t x y i → SolidIn t i → DeleteSays t x y t′ a → Refuses a → ⊥
+  pub save : (t : List ℤ) (out out′ : List ℕ) (a : Answer) → Fit t → 20 * solidsIn t ≤ length out → SaveSays t out out′ a → Refuses a → ⊥
 
 no-refused-fresh : (t t′ : List ℤ) (a : Answer) → SizeRight t → FreshSays t t′ a → Refuses a → ⊥
 no-refused-fresh t t′ a s (FreshSays.size n e w) r = n s
@@ -59,20 +67,42 @@ no-refused-find t x y a f p s r =
     let h = one-holder (recordsOf t) (tileOf t) (fit-forms t f .widest) x y p in
     accepts a (h .number) (find-is t f x y (h .number) a (record { used = h .used; has = h .has }) s) r
 
+no-refused-neighbours : (t : List ℤ) (x y s : ℕ) (out out′ : List ℤ) (a : Answer) → Fit t → InPlane x y → s < 4
+    → ((i : ℕ) (ks : List ℕ) → Finds t x y i → Neighbours t (sideOf s) i ks → length ks ≤ length out)
+    → NeighboursSays t x y (pos s) out out′ a → Refuses a → ⊥
+no-refused-neighbours t x y s out out′ a f p b l (NeighboursSays.unfit u w) r = not-fit t a u f
+no-refused-neighbours t x y s out out′ a f p b l (NeighboursSays.point g n e w) r = n p
+no-refused-neighbours t x y s out out′ a f p b l (NeighboursSays.side g q n e w) r = n s (record { is = refl; below = b })
+no-refused-neighbours t x y s out out′ a f p b l (NeighboursSays.short g c i ks d h m o e w) r =
+    let z : pos c ≡ pos s = sym (d .is) in
+    let q : c ≡ s = cc in
+    omega (arith, l i ks h (subst (λ s. Neighbours t (sideOf s) i ks) q m))
+no-refused-neighbours t x y s out out′ a f p b l (NeighboursSays.done g c i ks d h m o e w) r = accepts a (length ks) e r
+
 no-refused-search : (t : List ℤ) (R : Area) (a : Answer) → Fit t → RectRight R → SearchSays t R a → Refuses a → ⊥
 no-refused-search t R a f q (SearchSays.unfit u) r = not-fit t a u f
 no-refused-search t R a f q (SearchSays.rect g n e) r = n q
 no-refused-search t R a f q (SearchSays.free g p h e) r = r (ap (λ a. a .number) e)
 no-refused-search t R a f q (SearchSays.met g p x y i h e) r = accepts a i e r
 
+no-refused-enumerate : (t : List ℤ) (R : Area) (out out′ : List ℤ) (a : Answer) → Fit t → RectRight R
+    → ((ks : List ℕ) → Directed t R ks → length ks ≤ length out) → EnumerateSays t R out out′ a → Refuses a → ⊥
+no-refused-enumerate t R out out′ a f q l (EnumerateSays.unfit u w) r = not-fit t a u f
+no-refused-enumerate t R out out′ a f q l (EnumerateSays.rect g n e w) r = n q
+no-refused-enumerate t R out out′ a f q l (EnumerateSays.short g p ks d h e w) r = omega (arith, l ks d)
+no-refused-enumerate t R out out′ a f q l (EnumerateSays.done g p ks d h e w) r = accepts a (length ks) e r
+
 pub no-refusal : NoRefusal
 no-refusal = record {
   fresh = no-refused-fresh;
   check = λ t a f s r. accepts a (solidsIn t) (check-agrees t a (accepted (solidsIn t)) s (CheckSays.done f refl)) r;
   find = no-refused-find;
+  neighbours = no-refused-neighbours;
   search = no-refused-search;
+  enumerate = no-refused-enumerate;
   create = λ t R label t′ a f p l h n s r. let c = creates t f R label p l t′ a h n s in accepts a (c .at) (c .is) r;
   delete = λ t x y i t′ a f h o s r. accepts a _ (deletes t f x y i h t′ a o s .0) r;
+  save = λ t out out′ a f l s r. accepts a (20 * solidsIn t) (saves t f out out′ a l s .is) r;
 }
 
 -- as with A, B and C at (9, 9)

@@ -140,7 +140,7 @@ step-shown : (t t′ : List ℤ) (S S′ : List Tile) → Shown t S → Step t S
 step-shown t t′ S S′ k (Step.begins b) = begins-shown t t′ S′ b
 step-shown t t′ S S′ k (Step.fresh-refused {a = a} c h) = same-shown t t′ S k (fresh-left t t′ a c h)
 step-shown t t′ S S′ k (Step.load-unread {bs = bs} {a = a} c h) = same-shown t t′ S k (load-left t bs t′ a c h)
-step-shown t t′ S S′ k (Step.create {A = A} {label = l} {k = i} d) = create-shown t S k A l t′ i d
+step-shown t t′ S S′ k (Step.create {A = A} {label = l} {k = i} w d) = create-shown t S k A l t′ i d
 step-shown t t′ S S′ k (Step.create-refused r) = k
 step-shown t t′ S S′ k (Step.delete {x = x} {y = y} {i = i} d) = delete-shown t S k x y t′ i d
 step-shown t t′ S S′ k (Step.delete-refused r) = k
@@ -230,6 +230,9 @@ module _ (t : List ℤ) (S : List Tile) (k : Shown t S) where
         few = sound-three t (k .fit .size .most) (k .fit .sound);
         for = account-for;
       }
+
+pub built-kept : (t : List ℤ) → SizeRight t → (bs : List ℕ) (n : ℕ) (u : List ℤ) → Built (length t) bs n u → Kept u (filed bs n)
+built-kept t s bs n u b = shown-kept u (filed bs n) (built-shown t s bs n n u refl b)
 
 pub history-kept : {t : List ℤ} {S : List Tile} → History t S → Kept t S
 history-kept {t} {S} h = shown-kept t S (history-shown t S h)

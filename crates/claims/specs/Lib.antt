@@ -12,13 +12,16 @@ pub mod History
 pub mod HistoryAccount
 pub mod HistoryCalls
 pub mod HistoryKept
+pub mod HistoryLabels
 pub mod HistoryExact
 pub mod Renamed
 pub mod Draws
 pub mod Tests
 pub mod Tables
 pub mod Allowed
+pub mod CleanFile
 pub mod Examples
 pub mod ExamplesHold
+pub mod SavedFile
 pub mod RoundTrip
 pub mod Shams

@@ -105,6 +105,8 @@ pub record Kept (t : List ℤ) (S : List Tile) : Type 0 where
   -- the solids are exactly those accepted and not deleted, each once
   pub solids : (v : Tile) → Among S v ↔ Shows t v
   pub once : Distinct S
+  -- and their labels are words
+  pub labels : (v : Tile) → Among S v → v .label < 2 ^ 32
   pub number : length S ≡ solidsIn t
   pub fits : length S ≤ capacity (recordsOf t)
   -- each cell is held exactly once

@@ -3,7 +3,7 @@ use mathlib.Core.Path.{_≡_, refl, sym, ap, subst}
 use mathlib.Core.Logic.{_⊎_, inl, inr, ⊎-elim}
 use mathlib.Core.Bool.{Bool, true, false, not}
 use mathlib.Core.List.{List, [], _∷_, List·Memᴰ·head, List·Memᴰ·tail, List·Memᴰ·not-nil}
-use Prim.Native.Nat.{ℕ, zero, suc, _≤_, _<_}
+use Prim.Native.Nat.{ℕ, zero, suc, _≤_, _<_, _^_}
 use native.Mathlib.Nat.{not-suc-le-zero, le-of-suc-le-suc}
 use native.Mathlib.Omega.{arith}
 use lib.ListN.{length, getD}
@@ -12,6 +12,7 @@ use Rattle.geometry.specs.Cases.{below-suc, T-and, and-l, and-r}
 use Rattle.geometry.specs.Sums.{sum-const}
 use Rattle.geometry.specs.Count.{count}
 use Rattle.geometry.specs.Picture.{Tile, Has, number}
+use Rattle.layout.specs.Bytes.{savedAt, wordAt}
 use Rattle.claims.specs.History.{Among, Distinct, none, more, within, holds, unless, without, filedAt, filed, blank, setOf}
 
 -- ---- the test is Picture's `Has`
@@ -89,6 +90,11 @@ unfolding filed
 among-filed bs zero v i = absurd (List·Memᴰ·not-nil i)
 among-filed bs (suc n) v (List·Memᴰ·head e) = (n, omega arith, e)
 among-filed bs (suc n) v (List·Memᴰ·tail i) = let (m, h, e) = among-filed bs n v i in (m, omega arith, e)
+
+-- a label read from a file is a word
+pub filed-label : (bs : List ℕ) (n : ℕ) → savedAt bs n .label < 2 ^ 32
+unfolding savedAt wordAt
+filed-label bs n = omega arith
 
 -- ---- the account as a set
 

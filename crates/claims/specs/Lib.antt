@@ -12,7 +12,6 @@ pub mod History
 pub mod HistoryAccount
 pub mod HistoryCalls
 pub mod HistoryKept
-pub mod HistoryLabels
 pub mod HistoryExact
 pub mod Renamed
 pub mod Draws

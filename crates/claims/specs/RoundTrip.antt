@@ -9,17 +9,16 @@ use mir.Syntax.{w32}
 use mir.Val.{SFits}
 use Rattle.ruler.specs.Ruler.{ruler-fits}
 use Rattle.geometry.specs.Picture.{Tile}
-use Rattle.table.specs.Words.{WIDTH, LABEL, recordsOf, num}
+use Rattle.table.specs.Words.{WIDTH, LABEL, recordsOf, num, tileOf}
 use Rattle.table.specs.Sound.{SizeRight, capacity, solidsIn}
 use Rattle.layout.specs.OneOrder.{order-length}
 use Rattle.layout.specs.RoundTrip.{LabelsFit}
 use Rattle.ushanderi.specs.Answers.{accepted}
 use Rattle.ushanderi.specs.declared.answer.Answer.{Answer}
 use Rattle.ushanderi.specs.Promises.{Fit, SaveSays, LoadSays}
-use Rattle.claims.specs.AgreePicture.{SamePicture}
+use Rattle.claims.specs.AgreePicture.{SamePicture, shows}
 use Rattle.claims.specs.History.{History}
 use Rattle.claims.specs.HistoryKept.{built-kept, history-kept}
-use Rattle.claims.specs.HistoryLabels.{history-labels}
 use Rattle.claims.specs.Allowed.{saves}
 use Rattle.claims.specs.CleanFile.{built-length, clean-loads}
 use Rattle.claims.specs.SavedFile.{savedFile, saved-number, saved-clean, saved-picture, saved-bytes, save-by-picture}
@@ -81,4 +80,10 @@ pub history-between : (t u : List ℤ) (out : List ℕ) (S : List Tile) → Hist
     → solidsIn t ≤ capacity (recordsOf u) → Between t u out
 history-between t u out S h l z r =
     let k = history-kept h in
-    record { fit = record { size = k .size; sound = k .sound }; labels = history-labels t S h; list = l; size = z; room = r }
+    record {
+      fit = record { size = k .size; sound = k .sound };
+      labels = λ i s. k .labels (tileOf t i) (k .solids (tileOf t i) .1 (shows t i s));
+      list = l;
+      size = z;
+      room = r;
+    }

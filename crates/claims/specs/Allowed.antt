@@ -18,7 +18,7 @@ use Rattle.layout.specs.Order.{Saves}
 use Rattle.layout.specs.OneOrder.{order-length, saves-bytes}
 use Rattle.ushanderi.specs.Answers.{OCCUPIED, FULL, POINT, SPACE, answered, accepted, refused, nothing}
 use Rattle.ushanderi.specs.declared.answer.Answer.{Answer}
-use Rattle.ushanderi.specs.Promises.{Fit, FindSays, listed, NeighboursSays, SearchSays, EnumerateSays, CreateRefuses, CreateSays, DeleteRefuses, DeleteDone, DeleteSays, SaveSays}
+use Rattle.ushanderi.specs.Promises.{Fit, FindSays, listed, NeighboursSays, SearchSays, EnumerateSays, CreateRefuses, CreateAllows, CreateSays, DeleteRefuses, DeleteDone, DeleteSays, SaveSays}
 use Rattle.claims.specs.AgreeChecks.{not-fit, fit-forms, fit-finds-one, finds-inside}
 use Rattle.claims.specs.AgreeCreate.{Created}
 use Rattle.claims.specs.AgreeReads.{find-agrees, neighbours-agrees, search-agrees, enumerate-agrees}
@@ -28,6 +28,14 @@ use Rattle.claims.specs.HistoryExact.{never-room}
 pub record Saved (t : List ℤ) (out out′ : List ℕ) (a : Answer) : Type 0 where
   pub is : a ≡ accepted (20 * solidsIn t)
   pub saves : Saves t out out′ (20 * solidsIn t)
+
+-- no create is refused where none of its checks holds
+pub never-refused : {t : List ℤ} {A : Area} {label : ℕ} {a : Answer} → CreateAllows t A label → CreateRefuses t A label a → ⊥
+never-refused {t} {a = a} g (CreateRefuses.unfit u) = not-fit t a u (g .fit)
+never-refused g (CreateRefuses.rect f m e) = m (g .rect)
+never-refused g (CreateRefuses.label f s m e) = omega (arith, g .named)
+never-refused {t} {A} g (CreateRefuses.occupied f s m x y i p e) = free-no-first t A x y i (g .free) p
+never-refused g (CreateRefuses.full f s m o c e) = omega (arith, g .few)
 
 module _ (t : List ℤ) (f : Fit t) where
   -- ---- reading
@@ -59,11 +67,7 @@ module _ (t : List ℤ) (f : Fit t) where
 
   module _ (A : Area) (label : ℕ) (r : RectRight A) (l : ZERO < label) (t′ : List ℤ) (a : Answer) where
     pub creates : FreeArea t A → solidsIn t < capacity (recordsOf t) → CreateSays t A label t′ a → Created t A label t′ a
-    creates h n (CreateSays.refuses (CreateRefuses.unfit u) e) = absurd (not-fit t a u f)
-    creates h n (CreateSays.refuses (CreateRefuses.rect g m e) q) = absurd (m r)
-    creates h n (CreateSays.refuses (CreateRefuses.label g s m e) q) = absurd (omega arith)
-    creates h n (CreateSays.refuses (CreateRefuses.occupied g s m x y i p e) q) = absurd (free-no-first t A x y i h p)
-    creates h n (CreateSays.refuses (CreateRefuses.full g s m o c e) q) = absurd (omega arith)
+    creates h n (CreateSays.refuses o w) = absurd (never-refused (record { fit = f; rect = r; named = l; free = h; few = n }) o)
     creates h n (CreateSays.done k d e) = record { at = k; done = d; is = e }
 
     pub is-full : FreeArea t A → solidsIn t ≡ capacity (recordsOf t) → CreateSays t A label t′ a → (a ≡ refused FULL) × (t′ ≡ t)

@@ -1,5 +1,5 @@
 -- A file that no check refuses is loaded whole. Assumes nothing.
-use mathlib.Core.Path.{_≡_, refl, _∙_, subst}
+use mathlib.Core.Path.{_≡_, _∙_, subst}
 use mathlib.Core.List.{List}
 use Prim.Native.Nat.{ℕ, _/_, _%_, _≤_, _<_}
 use native.Mathlib.Omega.{arith}
@@ -11,16 +11,14 @@ use Rattle.table.specs.Sound.{SizeRight, capacity}
 use Rattle.table.specs.FreshSound.{fresh-length}
 use Rattle.seek.specs.Meaning.{InArea, RectRight, FreeArea}
 use Rattle.layout.specs.Bytes.{savedAt}
-use Rattle.ushanderi.specs.Answers.{answered, accepted}
+use Rattle.ushanderi.specs.Answers.{accepted}
 use Rattle.ushanderi.specs.declared.answer.Answer.{Answer}
-use Rattle.ushanderi.specs.Promises.{CreateRefuses, CreateSays, areaIn, Built, LoadStops, LoadSays}
-use Rattle.claims.specs.AgreeChecks.{number-is}
+use Rattle.ushanderi.specs.Promises.{CreateAllows, areaIn, Built, LoadStops, LoadSays}
 use Rattle.claims.specs.AgreePicture.{shows}
-use Rattle.claims.specs.AgreeCreate.{refuses-not-done}
 use Rattle.claims.specs.History.{filed, filedAt, Kept}
 use Rattle.claims.specs.HistoryAccount.{filed-length, among-filed}
 use Rattle.claims.specs.HistoryKept.{built-kept}
-use Rattle.claims.specs.Allowed.{creates}
+use Rattle.claims.specs.Allowed.{never-refused}
 
 -- whole records, each within the limits of RECT and LABEL, no two that share a cell, no more than N
 pub record Clean (bs : List ℕ) (N : ℕ) : Type 0 where
@@ -33,8 +31,7 @@ pub record Clean (bs : List ℕ) (N : ℕ) : Type 0 where
 module _ (t : List ℤ) (s : SizeRight t) (bs : List ℕ) where
   pub built-length : (n : ℕ) (u : List ℤ) → Built (length t) bs n u → length u ≡ length t
   built-length n u Built.none = fresh-length (length t) (omega (arith, s .least))
-  built-length n u (Built.more {n = m} {u = w} b k c) =
-      c .edited .size ∙ built-length m w b
+  built-length n u (Built.more {n = m} {u = w} b k c) = c .edited .size ∙ built-length m w b
 
   module _ (c : Clean bs (capacity (recordsOf t))) where
     next-free : (n : ℕ) (u : List ℤ) → n < length bs / 20 → Kept u (filed bs n) → FreeArea u (areaIn bs n)
@@ -44,16 +41,19 @@ module _ (t : List ℤ) (s : SizeRight t) (bs : List ℕ) where
         c .apart m n x y b h (omega (arith, q)) a
 
     -- so no create is refused
-    next-allowed : (n : ℕ) (u : List ℤ) (a : Answer) → n < length bs / 20 → Built (length t) bs n u
-        → CreateRefuses u (areaIn bs n) (savedAt bs n .label) a → ⊥
-    next-allowed n u a h b r =
+    next-allowed : (n : ℕ) (u : List ℤ) → n < length bs / 20 → Built (length t) bs n u → CreateAllows u (areaIn bs n) (savedAt bs n .label)
+    next-allowed n u h b =
         let k = built-kept t s bs n u b in
-        let g = creates u (record { size = k .size; sound = k .sound }) (areaIn bs n) (savedAt bs n .label) (c .rect n h) (c .label n h) u a
-        (next-free n u h k) (omega (arith, c .few, k .number, filed-length bs n, built-length n u b)) (CreateSays.refuses r refl) in
-        refuses-not-done r (number-is (g .is))
+        record {
+          fit = record { size = k .size; sound = k .sound };
+          rect = c .rect n h;
+          named = c .label n h;
+          free = next-free n u h k;
+          few = omega (arith, c .few, k .number, filed-length bs n, built-length n u b);
+        }
 
     pub clean-loads : (t′ : List ℤ) (a : Answer) → LoadSays t bs t′ a → (a ≡ accepted (length bs / 20)) × Built (length t) bs (length bs / 20) t′
     clean-loads t′ a (LoadSays.size n e w) = absurd (n s)
     clean-loads t′ a (LoadSays.file z n e w) = absurd (n (c .whole))
-    clean-loads t′ a (LoadSays.stopped (LoadStops.stops z r n number value u h b d e) w) = absurd (next-allowed n u (answered number value) h b d)
+    clean-loads t′ a (LoadSays.stopped (LoadStops.stops z r n number value u h b d e) w) = absurd (never-refused (next-allowed n u h b) d)
     clean-loads t′ a (LoadSays.done z r b e) = (e, b)

@@ -9,7 +9,7 @@ use lib.ListN.{length}
 use denote.Ref.{now}
 use Rattle.ruler.specs.Ruler.{ruler}
 use Rattle.geometry.specs.Cases.{lt-cases}
-use Rattle.geometry.specs.Picture.{ZERO, InPlane, Tile, Has}
+use Rattle.geometry.specs.Picture.{InPlane, Tile, Has}
 use Rattle.geometry.specs.Tiling.{one-holder}
 use Rattle.table.specs.Words.{WIDTH, recordsOf, tileOf}
 use Rattle.table.specs.Sound.{SizeRight, capacity, solidsIn}
@@ -21,7 +21,7 @@ use Rattle.seek.specs.Find.{Finds}
 use Rattle.seek.specs.Neighbours.{sideOf, Neighbours}
 use Rattle.ushanderi.specs.Answers.{DONE, SIZE, UNSOUND, RECT, SHORT, answered, accepted, nothing}
 use Rattle.ushanderi.specs.declared.answer.Answer.{Answer}
-use Rattle.ushanderi.specs.Promises.{Unfit, Fit, FreshSays, CheckSays, ViewSays, FindSays, listed, NeighboursSays, SearchSays, EnumerateSays, CreateSays, DeleteSays, SaveSays, LoadSays}
+use Rattle.ushanderi.specs.Promises.{Unfit, Fit, FreshSays, CheckSays, ViewSays, FindSays, listed, NeighboursSays, SearchSays, EnumerateSays, CreateAllows, CreateSays, DeleteSays, SaveSays, LoadSays}
 use Rattle.claims.specs.AgreeChecks.{fit-forms, not-fit, number-is}
 use Rattle.claims.specs.AgreePicture.{Shows}
 use Rattle.claims.specs.AgreeReads.{fresh-agrees, check-agrees, view-placed, enumerate-agrees}
@@ -32,7 +32,7 @@ use Rattle.claims.specs.HistoryAccount.{filed-among}
 use Rattle.claims.specs.HistoryKept.{built-kept, history-kept}
 use Rattle.claims.specs.Draws.{Draws, areaOf, fresh-draws}
 use Rattle.claims.specs.Tables.{area, A, B, C}
-use Rattle.claims.specs.Allowed.{find-is, search-free, creates, deletes, saves}
+use Rattle.claims.specs.Allowed.{never-refused, find-is, search-free, deletes, saves}
 use Rattle.claims.specs.CleanFile.{Clean, clean-loads}
 use Rattle.claims.specs.Examples.{ABC}
 use Rattle.claims.specs.ExamplesHold.{second-done, after-A}
@@ -57,8 +57,7 @@ pub record NoRefusal : Type 0 where
   pub search : (t : List ℤ) (R : Area) (a : Answer) → Fit t → RectRight R → SearchSays t R a → Refuses a → ⊥
   pub enumerate : (t : List ℤ) (R : Area) (out out′ : List ℤ) (a : Answer) → Fit t → RectRight R
       → ((ks : List ℕ) → Directed t R ks → length ks ≤ length out) → EnumerateSays t R out out′ a → Refuses a → ⊥
-  pub create : (t : List ℤ) (R : Area) (label : ℕ) (t′ : List ℤ) (a : Answer) → Fit t → RectRight R → ZERO < label → FreeArea t R
-      → solidsIn t < capacity (recordsOf t) → CreateSays t R label t′ a → Refuses a → ⊥
+  pub create : (t : List ℤ) (R : Area) (label : ℕ) (t′ : List ℤ) (a : Answer) → CreateAllows t R label → CreateSays t R label t′ a → Refuses a → ⊥
   pub delete : (t : List ℤ) (x y i : ℕ) (t′ : List ℤ) (a : Answer) → Fit t → Finds t x y i → SolidIn t i → DeleteSays t x y t′ a → Refuses a → ⊥
   pub save : (t : List ℤ) (out out′ : List ℕ) (a : Answer) → Fit t → 20 * solidsIn t ≤ length out → SaveSays t out out′ a → Refuses a → ⊥
   pub load : (t t′ : List ℤ) (bs : List ℕ) (a : Answer) → SizeRight t → Clean bs (capacity (recordsOf t)) → LoadSays t bs t′ a → Refuses a → ⊥
@@ -97,6 +96,10 @@ no-refused-enumerate t R out out′ a f q l (EnumerateSays.rect g n e w) r = n q
 no-refused-enumerate t R out out′ a f q l (EnumerateSays.short g p ks d h e w) r = omega (arith, l ks d)
 no-refused-enumerate t R out out′ a f q l (EnumerateSays.done g p ks d h e w) r = accepts a (length ks) e r
 
+no-refused-create : (t : List ℤ) (R : Area) (label : ℕ) (t′ : List ℤ) (a : Answer) → CreateAllows t R label → CreateSays t R label t′ a → Refuses a → ⊥
+no-refused-create t R label t′ a g (CreateSays.refuses o w) r = never-refused g o
+no-refused-create t R label t′ a g (CreateSays.done k d e) r = accepts a k e r
+
 pub no-refusal : NoRefusal
 no-refusal = record {
   fresh = no-refused-fresh;
@@ -105,7 +108,7 @@ no-refusal = record {
   neighbours = no-refused-neighbours;
   search = no-refused-search;
   enumerate = no-refused-enumerate;
-  create = λ t R label t′ a f p l h n s r. let c = creates t f R label p l t′ a h n s in accepts a (c .at) (c .is) r;
+  create = no-refused-create;
   delete = λ t x y i t′ a f h o s r. accepts a _ (deletes t f x y i h t′ a o s .0) r;
   save = λ t out out′ a f l s r. accepts a (20 * solidsIn t) (saves t f out out′ a l s .is) r;
   load = λ t t′ bs a z c s r. accepts a (length bs / 20) (clean-loads t z bs c t′ a s .0) r;

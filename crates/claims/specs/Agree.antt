@@ -1,13 +1,16 @@
 -- Agreement, call by call: two answers that a promise allows for the same table and arguments are equal, and so is what they leave. Where 01 leaves open
--- which records a create or a load gives to new solids, and which a create, delete or load gives to space tiles, the pictures agree. Assumes nothing.
+-- which records a create or a load gives to new solids, and which a create, delete or load gives to space tiles, the tables agree but for these numbers.
+-- Assumes nothing.
 use mathlib.Core.Path.{_≡_}
 use mathlib.Core.List.{List}
 use Prim.Native.Nat.{ℕ}
 use lib.IntN.{ℤ}
+use denote.Ref.{now}
+use Rattle.table.specs.View.{Places, Slice, IsPart}
 use Rattle.seek.specs.Meaning.{Area}
 use Rattle.ushanderi.specs.declared.answer.Answer.{Answer}
 use Rattle.ushanderi.specs.Promises.{Fit, FreshSays, CheckSays, ViewSays, FindSays, NeighboursSays, SearchSays, EnumerateSays, CreateSays, DeleteSays, SaveSays, LoadSays}
-use Rattle.claims.specs.AgreeReads.{fresh-agrees, check-agrees, view-agrees, find-agrees, neighbours-agrees, search-agrees, enumerate-agrees, save-agrees}
+use Rattle.claims.specs.AgreeReads.{fresh-agrees, check-agrees, places-agree, view-placed, view-agrees, find-agrees, neighbours-agrees, search-agrees, enumerate-agrees, save-agrees}
 use Rattle.claims.specs.AgreePicture.{SamePicture, SameTiles, space-agrees}
 use Rattle.claims.specs.AgreeCreate.{CreateAgrees, create-agrees}
 use Rattle.claims.specs.AgreeDelete.{DeleteAgrees, delete-agrees}
@@ -16,7 +19,10 @@ use Rattle.claims.specs.AgreeLoad.{LoadAgrees, load-agrees}
 pub record Agreement : Type 0 where
   pub fresh : (t u v : List ℤ) (a b : Answer) → FreshSays t u a → FreshSays t v b → (a ≡ b) × (u ≡ v)
   pub check : (t : List ℤ) (a b : Answer) → CheckSays t a → CheckSays t b → a ≡ b
-  pub view : (t : List ℤ) (index : ℤ) (p q : List ℤ) → ViewSays t index p → ViewSays t index q → p ≡ q
+  pub view : (lent : Slice) (index : ℤ) (p q : Slice) → ViewSays lent index p → ViewSays lent index q → (p .ptr ≡ q .ptr) × (now p ≡ now q)
+  -- the place that the C name gives for a part, and that view's part lies there
+  pub place : (t : List ℤ) (index : ℤ) (at len at′ len′ : ℕ) → Places t index at len → Places t index at′ len′ → (at ≡ at′) × (len ≡ len′)
+  pub placed : (lent : Slice) (index : ℤ) (part : Slice) (at len : ℕ) → ViewSays lent index part → Places (now lent) index at len → IsPart lent at len part
   pub find : (t : List ℤ) (x y : ℕ) (a b : Answer) → FindSays t x y a → FindSays t x y b → a ≡ b
   pub neighbours : (t : List ℤ) (x y : ℕ) (side : ℤ) (out u v : List ℤ) (a b : Answer)
       → NeighboursSays t x y side out u a → NeighboursSays t x y side out v b → (a ≡ b) × (u ≡ v)
@@ -37,6 +43,8 @@ agreement =
       fresh = fresh-agrees;
       check = check-agrees;
       view = view-agrees;
+      place = places-agree;
+      placed = view-placed;
       find = find-agrees;
       neighbours = neighbours-agrees;
       search = search-agrees;

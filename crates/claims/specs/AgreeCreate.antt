@@ -6,7 +6,6 @@ use mathlib.Core.List.{List}
 use Prim.Native.Nat.{ℕ, _/_, _≤_}
 use native.Mathlib.Omega.{arith}
 use lib.IntN.{ℤ, pos}
-use lib.ListN.{length}
 use Rattle.geometry.specs.Cases.{eq-cases}
 use Rattle.geometry.specs.Picture.{ZERO, Tile, Has}
 use Rattle.table.specs.Words.{WIDTH, recordsOf, tileOf}
@@ -19,7 +18,8 @@ use Rattle.ushanderi.specs.Edits.{drawn, Adds, Edited}
 use Rattle.ushanderi.specs.Promises.{Unfit, Fit, CreateRefuses, CreateDone, CreateSays}
 use Rattle.ushanderi.specs.Editing.{refusal}
 use Rattle.claims.specs.AgreeChecks.{Then, stops, goes, both, same, join, NotFit, not-fit, unfit-agrees, fit-forms, number-is, not-done, unfit-not-done}
-use Rattle.claims.specs.AgreePicture.{Shows, SamePicture, SameTiles, picture-turned, shows, space-agrees, picture-count}
+use Rattle.claims.specs.AgreePicture.{Shows, SamePicture, picture-turned, shows, picture-count}
+use Rattle.claims.specs.AgreeTables.{Renumbered, Alike, alike-self, alike-turned, alike-renumbered}
 
 -- ---- create's checks in their order
 
@@ -103,18 +103,6 @@ edited-fit t t′ f e =
 
 -- ---- creates on two tables of one picture
 
-pub record Alike (u v : List ℤ) : Type 0 where
-  pub left : Fit u
-  pub right : Fit v
-  pub size : length u ≡ length v
-  pub picture : SamePicture u v
-
-pub alike-self : (t : List ℤ) → Fit t → Alike t t
-alike-self t f = record { left = f; right = f; size = refl; picture = λ w. (λ s. s, λ s. s) }
-
-pub alike-turned : (u v : List ℤ) → Alike u v → Alike v u
-alike-turned u v l = record { left = l .right; right = l .left; size = sym (l .size); picture = picture-turned u v (l .picture) }
-
 met-there : (u v : List ℤ) → SamePicture u v → (A : Area) → Met u A → Met v A
 met-there u v p A m =
     let f = m .first in
@@ -175,8 +163,7 @@ abbrev pub Keeps : List ℤ → List ℤ → Type 0
 Keeps t u = (i : ℕ) → SolidIn t i → SolidIn u i × (tileOf u i ≡ tileOf t i)
 
 pub record CreatedAgree (t u v : List ℤ) : Type 0 where
-  pub picture : SamePicture u v
-  pub tiles : SameTiles u v
+  pub table : Renumbered u v
   pub kept : Keeps t u
   pub kept-too : Keeps t v
 
@@ -201,17 +188,11 @@ module _ (t : List ℤ) (A : Area) (label : ℕ) (u v : List ℤ) (a b : Answer)
 
   created-same : Fit t → Created t A label u a → Created t A label v b → CreateAgrees t u v a b
   created-same f p q =
-      let w : SamePicture u v = adds-picture t t u v (p .at) (q .at) (drawn A label) (alike-self t f .picture) (p .done .adds) (q .done .adds) in
+      let g = both-created t t A label u v a b (alike-self t f) p q in
       record {
-        number = number-is (p .is) ∙ sym (number-is (q .is));
+        number = g .number;
         refused = λ h. absurd (h (number-is (p .is)));
-        done = λ h.
-            record {
-              picture = w;
-              tiles = space-agrees u v (edited-fit t u f (p .done .edited)) (edited-fit t v f (q .done .edited)) w;
-              kept = p .done .adds .kept;
-              kept-too = q .done .adds .kept;
-            };
+        done = λ h. record { table = alike-renumbered u v (g .done h); kept = p .done .adds .kept; kept-too = q .done .adds .kept };
       }
 
   occupied-same : Fit t → Occupied t A a × (u ≡ t) → Occupied t A b × (v ≡ t) → CreateAgrees t u v a b

@@ -16,7 +16,8 @@ use Rattle.ushanderi.specs.declared.answer.Answer.{Answer}
 use Rattle.ushanderi.specs.Edits.{Removes, NoRoom}
 use Rattle.ushanderi.specs.Promises.{Unfit, Fit, DeleteRefuses, DeleteDone, DeleteSays}
 use Rattle.claims.specs.AgreeChecks.{Then, stops, goes, same, join, NotFit, not-fit, unfit-agrees, fit-finds-one, finds-inside, number-is, not-done, unfit-not-done}
-use Rattle.claims.specs.AgreePicture.{SamePicture, SameTiles, space-agrees}
+use Rattle.claims.specs.AgreePicture.{SamePicture}
+use Rattle.claims.specs.AgreeTables.{Renumbered, alike-renumbered}
 use Rattle.claims.specs.AgreeCreate.{edited-fit}
 
 -- ---- delete's checks in their order
@@ -75,7 +76,7 @@ pub record SameRecords (u v : List ℤ) : Type 0 where
 
 pub record DeletedAgree (u v : List ℤ) : Type 0 where
   pub solids : SameRecords u v
-  pub tiles : SameTiles u v
+  pub table : Renumbered u v
 
 pub record DeleteAgrees (u v : List ℤ) (a b : Answer) : Type 0 where
   pub answer : a ≡ b
@@ -121,7 +122,12 @@ module _ (t : List ℤ) (x y : ℕ) (u v : List ℤ) (a b : Answer) where
         done = λ h.
             record {
               solids = s;
-              tiles = space-agrees u v (edited-fit t u f (p .done .edited)) (edited-fit t v f (q .done .edited)) (records-picture u v s);
+              table = alike-renumbered u v (record {
+                left = edited-fit t u f (p .done .edited);
+                right = edited-fit t v f (q .done .edited);
+                size = join (p .done .edited .size) (q .done .edited .size);
+                picture = records-picture u v s;
+              });
             };
       }
 

@@ -15,8 +15,8 @@ use Rattle.ushanderi.specs.Answers.{DONE, SIZE, FILE, answered, accepted, refus
 use Rattle.ushanderi.specs.declared.answer.Answer.{Answer}
 use Rattle.ushanderi.specs.Promises.{Fit, CreateRefuses, CreateDone, CreateSays, areaIn, Built, LoadStops, LoadSays}
 use Rattle.claims.specs.AgreeChecks.{Then, stops, goes, same, join, number-is, not-done}
-use Rattle.claims.specs.AgreePicture.{SamePicture, SameTiles, space-agrees}
-use Rattle.claims.specs.AgreeCreate.{refuses-not-done, Alike, alike-self, create-alike}
+use Rattle.claims.specs.AgreeTables.{Renumbered, Alike, alike-self, alike-renumbered}
+use Rattle.claims.specs.AgreeCreate.{refuses-not-done, create-alike}
 
 -- a fresh plane of the right size is fit
 pub fresh-fit : (t : List ℤ) → SizeRight t → Fit (freshTable (length t))
@@ -87,14 +87,10 @@ module _ (t : List ℤ) (s : SizeRight t) (bs : List ℕ) where
 
 -- ---- two answers to one load
 
-pub record LoadDone (u v : List ℤ) : Type 0 where
-  pub picture : SamePicture u v
-  pub tiles : SameTiles u v
-
 pub record LoadAgrees (u v : List ℤ) (a b : Answer) : Type 0 where
   pub answer : a ≡ b
   pub refused : a .number ≢ pos DONE → u ≡ v
-  pub done : a .number ≡ pos DONE → LoadDone u v
+  pub done : a .number ≡ pos DONE → Renumbered u v
 
 module _ (t : List ℤ) (bs : List ℕ) where
   record Stopped (s : SizeRight t) (t′ : List ℤ) (a : Answer) : Type 0 where
@@ -147,7 +143,7 @@ module _ (t : List ℤ) (bs : List ℕ) where
         record {
           answer = join e g;
           refused = λ h. absurd (h (number-is e));
-          done = λ h. record { picture = l .picture; tiles = space-agrees u v (l .left) (l .right) (l .picture) };
+          done = λ h. alike-renumbered u v l;
         }
 
     pub load-agrees : LoadSays t bs u a → LoadSays t bs v b → LoadAgrees u v a b

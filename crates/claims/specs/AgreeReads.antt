@@ -1,13 +1,14 @@
 -- Two answers that the promise of a call which only reads, or of fresh, allows agree: number, value, returned part and lent memory. Assumes nothing.
-use mathlib.Core.Path.{_≡_, sym, ap, ap₂, _∙_, subst}
+use mathlib.Core.Path.{_≡_, sym, ap, ap₂, _∙_, subst, subst₂}
 use mathlib.Core.List.{List}
 use Prim.Native.Nat.{ℕ, _*_, _≤_, _<_}
 use native.Mathlib.Omega.{arith}
 use lib.IntN.{ℤ, pos}
 use lib.ListN.{length}
+use denote.Ref.{now}
 use Rattle.geometry.specs.Picture.{InPlane}
 use Rattle.table.specs.Sound.{solidsIn}
-use Rattle.table.specs.View.{Places, partOf}
+use Rattle.table.specs.View.{Places, Slice, IsPart}
 use Rattle.seek.specs.Meaning.{Area, RectRight, FreeArea, First, Directed}
 use Rattle.seek.specs.Find.{Finds}
 use Rattle.seek.specs.Neighbours.{sideOf, Neighbours}
@@ -35,7 +36,7 @@ check-agrees t a b (CheckSays.unfit n) (CheckSays.done f e) = absurd (not-fit t 
 check-agrees t a b (CheckSays.done f e) (CheckSays.unfit m) = absurd (not-fit t b m f)
 check-agrees t a b (CheckSays.done f e) (CheckSays.done g d) = join e d
 
-places-agree : (t : List ℤ) (index : ℤ) (at len at′ len′ : ℕ) → Places t index at len → Places t index at′ len′ → (at ≡ at′) × (len ≡ len′)
+pub places-agree : (t : List ℤ) (index : ℤ) (at len at′ len′ : ℕ) → Places t index at len → Places t index at′ len′ → (at ≡ at′) × (len ≡ len′)
 places-agree t index at len at′ len′ (Places.nowhere n a e) (Places.nowhere m b d) = (join a b, join e d)
 places-agree t index at len at′ len′ (Places.nowhere n a e) (Places.there i h b d) = absurd (n i h)
 places-agree t index at len at′ len′ (Places.there i h a e) (Places.nowhere m b d) = absurd (m i h)
@@ -44,10 +45,16 @@ places-agree t index at len at′ len′ (Places.there i h a e) (Places.there j 
     let q : i ≡ j = cc in
     (omega arith, omega arith)
 
-pub view-agrees : (t : List ℤ) (index : ℤ) (p q : List ℤ) → ViewSays t index p → ViewSays t index q → p ≡ q
-view-agrees t index p q v w =
-    let (e, d) = places-agree t index (v .at) (v .len) (w .at) (w .len) (v .place) (w .place) in
-    v .is ∙ ap₂ (partOf t) e d ∙ sym (w .is)
+-- the part that view returns lies where the C name says
+pub view-placed : (lent : Slice) (index : ℤ) (part : Slice) (at len : ℕ) → ViewSays lent index part → Places (now lent) index at len → IsPart lent at len part
+view-placed lent index part at len v w =
+    let (e, d) = places-agree (now lent) index (v .at) (v .len) at len (v .place) w in
+    subst₂ (λ at len. IsPart lent at len part) e d (v .is)
+
+pub view-agrees : (lent : Slice) (index : ℤ) (p q : Slice) → ViewSays lent index p → ViewSays lent index q → (p .ptr ≡ q .ptr) × (now p ≡ now q)
+view-agrees lent index p q v w =
+    let s = view-placed lent index p (w .at) (w .len) v (w .place) in
+    (ap₂ (λ b o. (b, o)) (join (s .block) (w .is .block)) (join (s .byte) (w .is .byte)), join (s .words) (w .is .words))
 
 -- ---- find
 

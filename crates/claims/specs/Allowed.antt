@@ -1,7 +1,7 @@
 -- What an allowed answer has to be on a fit table of which the facts are known. Assumes nothing.
 use mathlib.Core.Path.{_≡_, refl, ap, _∙_, subst}
 use mathlib.Core.List.{List}
-use Prim.Native.Nat.{ℕ, _-_, _≤_, _<_}
+use Prim.Native.Nat.{ℕ, _-_, _*_, _≤_, _<_}
 use native.Mathlib.Omega.{arith}
 use lib.IntN.{ℤ, pos}
 use lib.ListN.{length}
@@ -14,13 +14,28 @@ use Rattle.seek.specs.Meaning.{SolidIn, Area, RectRight, FreeArea, First, Direc
 use Rattle.seek.specs.Find.{Finds}
 use Rattle.seek.specs.Neighbours.{sideOf, Neighbours}
 use Rattle.seek.specs.Search.{first-one, free-no-first}
+use Rattle.layout.specs.Order.{Saves}
+use Rattle.layout.specs.OneOrder.{order-length, saves-bytes}
 use Rattle.ushanderi.specs.Answers.{OCCUPIED, FULL, POINT, SPACE, answered, accepted, refused, nothing}
 use Rattle.ushanderi.specs.declared.answer.Answer.{Answer}
-use Rattle.ushanderi.specs.Promises.{Fit, FindSays, listed, NeighboursSays, SearchSays, EnumerateSays, CreateRefuses, CreateSays, DeleteRefuses, DeleteDone, DeleteSays}
+use Rattle.ushanderi.specs.Promises.{Fit, FindSays, listed, NeighboursSays, SearchSays, EnumerateSays, CreateRefuses, CreateAllows, CreateSays, DeleteRefuses, DeleteDone, DeleteSays, SaveSays}
 use Rattle.claims.specs.AgreeChecks.{not-fit, fit-forms, fit-finds-one, finds-inside}
 use Rattle.claims.specs.AgreeCreate.{Created}
 use Rattle.claims.specs.AgreeReads.{find-agrees, neighbours-agrees, search-agrees, enumerate-agrees}
 use Rattle.claims.specs.HistoryExact.{never-room}
+
+-- what an accepted save says
+pub record Saved (t : List ℤ) (out out′ : List ℕ) (a : Answer) : Type 0 where
+  pub is : a ≡ accepted (20 * solidsIn t)
+  pub saves : Saves t out out′ (20 * solidsIn t)
+
+-- no create is refused where none of its checks holds
+pub never-refused : {t : List ℤ} {A : Area} {label : ℕ} {a : Answer} → CreateAllows t A label → CreateRefuses t A label a → ⊥
+never-refused {t} {a = a} g (CreateRefuses.unfit u) = not-fit t a u (g .fit)
+never-refused g (CreateRefuses.rect f m e) = m (g .rect)
+never-refused g (CreateRefuses.label f s m e) = omega (arith, g .named)
+never-refused {t} {A} g (CreateRefuses.occupied f s m x y i p e) = free-no-first t A x y i (g .free) p
+never-refused g (CreateRefuses.full f s m o c e) = omega (arith, g .few)
 
 module _ (t : List ℤ) (f : Fit t) where
   -- ---- reading
@@ -52,11 +67,7 @@ module _ (t : List ℤ) (f : Fit t) where
 
   module _ (A : Area) (label : ℕ) (r : RectRight A) (l : ZERO < label) (t′ : List ℤ) (a : Answer) where
     pub creates : FreeArea t A → solidsIn t < capacity (recordsOf t) → CreateSays t A label t′ a → Created t A label t′ a
-    creates h n (CreateSays.refuses (CreateRefuses.unfit u) e) = absurd (not-fit t a u f)
-    creates h n (CreateSays.refuses (CreateRefuses.rect g m e) q) = absurd (m r)
-    creates h n (CreateSays.refuses (CreateRefuses.label g s m e) q) = absurd (omega arith)
-    creates h n (CreateSays.refuses (CreateRefuses.occupied g s m x y i p e) q) = absurd (free-no-first t A x y i h p)
-    creates h n (CreateSays.refuses (CreateRefuses.full g s m o c e) q) = absurd (omega arith)
+    creates h n (CreateSays.refuses o w) = absurd (never-refused (record { fit = f; rect = r; named = l; free = h; few = n }) o)
     creates h n (CreateSays.done k d e) = record { at = k; done = d; is = e }
 
     pub is-full : FreeArea t A → solidsIn t ≡ capacity (recordsOf t) → CreateSays t A label t′ a → (a ≡ refused FULL) × (t′ ≡ t)
@@ -97,3 +108,12 @@ module _ (t : List ℤ) (f : Fit t) where
     is-space s (DeleteSays.refuses (DeleteRefuses.space g j k c e) q) = (e, q)
     is-space s (DeleteSays.refuses (DeleteRefuses.room g j k c n e) q) = absurd (one-kind j i (fit-finds-one t f x y j i k h) c s)
     is-space s (DeleteSays.done j d e) = absurd (one-kind j i (fit-finds-one t f x y j i (d .allows .finds) h) (d .allows .solid) s)
+
+  -- ---- save
+
+  pub saves : (out out′ : List ℕ) (a : Answer) → 20 * solidsIn t ≤ length out → SaveSays t out out′ a → Saved t out out′ a
+  saves out out′ a l (SaveSays.unfit u e) = absurd (not-fit t a u f)
+  saves out out′ a l (SaveSays.short g ks s h e w) = absurd (omega (arith, order-length t ks s))
+  saves out out′ a l (SaveSays.done g n s h e) =
+      let q = saves-bytes t out out′ n s in
+      record { is = e ∙ ap accepted q; saves = subst (Saves t out out′) q s }

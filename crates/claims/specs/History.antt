@@ -4,14 +4,16 @@ use mathlib.Core.Path.{_≡_}
 use mathlib.Core.Logic.{_≢_, _↔_, _⊎_}
 use mathlib.Core.Bool.{Bool, true, false, _&&_}
 use mathlib.Core.List.{List, [], _∷_, List·Memᴰ}
-use Prim.Native.Nat.{ℕ, zero, suc, _+_, _*_, _/_, _≤_}
+use Prim.Native.Nat.{ℕ, zero, suc, _+_, _*_, _/_, _≤_, _<_, _^_}
 use lib.IntN.{ℤ, pos}
 use lib.ListN.{length, getD}
 use lib.Dec.{leb, ltb}
+use denote.Ref.{now}
 use Rattle.geometry.specs.Picture.{ZERO, SPACE, InPlane, Tile, Solids, Strip}
 use Rattle.geometry.specs.Tiling.{Holder}
 use Rattle.table.specs.Words.{LEFT, BOTTOM, RIGHT, TOP, KIND, recordsOf, num, tileOf}
 use Rattle.table.specs.Sound.{SizeRight, Sound, SoundFor, UsedIn, Stitched, capacity, solidsIn, spacesIn}
+use Rattle.table.specs.View.{Slice}
 use Rattle.seek.specs.Meaning.{Area}
 use Rattle.layout.specs.Bytes.{savedAt}
 use Rattle.ushanderi.specs.Answers.{DONE, SIZE, FILE}
@@ -46,10 +48,13 @@ unfoldable pub without : ℕ → ℕ → List Tile → List Tile
 without x y [] = []
 without x y (v ∷ S) = unless (holds v x y) v (without x y S)
 
--- the solids of a file's first n records, the last one first
+-- the solid of a file's record n, and those of its first n records, the last one first
+abbrev pub filedAt : List ℕ → ℕ → Tile
+filedAt bs n = drawn (areaIn bs n) (savedAt bs n .label)
+
 unfoldable pub filed : List ℕ → ℕ → List Tile
 filed bs zero = []
-filed bs (suc n) = drawn (areaIn bs n) (savedAt bs n .label) ∷ filed bs n
+filed bs (suc n) = filedAt bs n ∷ filed bs n
 
 -- ---- histories
 
@@ -60,18 +65,18 @@ pub data Begins (t t′ : List ℤ) : List Tile → Type 0 where
   load : {bs : List ℕ} {a : Answer} → LoadSays t bs t′ a → a .number ≡ pos DONE → Begins t t′ (filed bs (length bs / 20))
   load-refused : {bs : List ℕ} {a : Answer} → LoadSays t bs t′ a → LoadStops t bs a → Begins t t′ []
 
--- One call: the table and the account before it and after it. That a call which only reads leaves the table is said here, since its promise names one table.
--- A refused create or delete leaves it by its promise.
+-- One call: the table and the account before it and after it. That a call which only reads leaves the table is said here, since its promise names one
+-- table; and that a label is a word's number, since the promise speaks of any number. A refused create or delete leaves the table by its promise.
 pub data Step (t : List ℤ) (S : List Tile) : List ℤ → List Tile → Type 0 where
   begins : {t′ : List ℤ} {S′ : List Tile} → Begins t t′ S′ → Step t S t′ S′
   fresh-refused : {t′ : List ℤ} {a : Answer} → FreshSays t t′ a → a .number ≢ pos DONE → Step t S t′ S
   load-unread : {bs : List ℕ} {t′ : List ℤ} {a : Answer} → LoadSays t bs t′ a → (a .number ≡ pos SIZE) ⊎ (a .number ≡ pos FILE) → Step t S t′ S
-  create : {A : Area} {label : ℕ} {t′ : List ℤ} {k : ℕ} → CreateDone t A label t′ k → Step t S t′ (drawn A label ∷ S)
+  create : {A : Area} {label : ℕ} {t′ : List ℤ} {k : ℕ} → label < 2 ^ 32 → CreateDone t A label t′ k → Step t S t′ (drawn A label ∷ S)
   create-refused : {A : Area} {label : ℕ} {a : Answer} → CreateRefuses t A label a → Step t S t S
   delete : {x y : ℕ} {t′ : List ℤ} {i : ℕ} → DeleteDone t x y t′ i → Step t S t′ (without x y S)
   delete-refused : {x y : ℕ} {a : Answer} → DeleteRefuses t x y a → Step t S t S
   check : {a : Answer} → CheckSays t a → Step t S t S
-  view : {index : ℤ} {part : List ℤ} → ViewSays t index part → Step t S t S
+  view : {lent part : Slice} {index : ℤ} → now lent ≡ t → ViewSays lent index part → Step t S t S
   find : {x y : ℕ} {a : Answer} → FindSays t x y a → Step t S t S
   neighbours : {x y : ℕ} {side : ℤ} {out out′ : List ℤ} {a : Answer} → NeighboursSays t x y side out out′ a → Step t S t S
   search : {A : Area} {a : Answer} → SearchSays t A a → Step t S t S
@@ -100,6 +105,8 @@ pub record Kept (t : List ℤ) (S : List Tile) : Type 0 where
   -- the solids are exactly those accepted and not deleted, each once
   pub solids : (v : Tile) → Among S v ↔ Shows t v
   pub once : Distinct S
+  -- and their labels are words
+  pub labels : (v : Tile) → Among S v → v .label < 2 ^ 32
   pub number : length S ≡ solidsIn t
   pub fits : length S ≤ capacity (recordsOf t)
   -- each cell is held exactly once

@@ -3,16 +3,17 @@ use mathlib.Core.Path.{_≡_, refl, sym, ap, subst}
 use mathlib.Core.Logic.{_⊎_, inl, inr, ⊎-elim}
 use mathlib.Core.Bool.{Bool, true, false, not}
 use mathlib.Core.List.{List, [], _∷_, List·Memᴰ·head, List·Memᴰ·tail, List·Memᴰ·not-nil}
-use Prim.Native.Nat.{ℕ, zero, suc, _≤_, _<_}
+use Prim.Native.Nat.{ℕ, zero, suc, _≤_, _<_, _^_}
 use native.Mathlib.Nat.{not-suc-le-zero, le-of-suc-le-suc}
 use native.Mathlib.Omega.{arith}
 use lib.ListN.{length, getD}
 use lib.Dec.{T, leb, ltb, leb→le, le→leb, ltb→lt, lt→ltb, T-not}
-use Rattle.geometry.specs.Cases.{T-and, and-l, and-r}
+use Rattle.geometry.specs.Cases.{below-suc, T-and, and-l, and-r}
 use Rattle.geometry.specs.Sums.{sum-const}
 use Rattle.geometry.specs.Count.{count}
 use Rattle.geometry.specs.Picture.{Tile, Has, number}
-use Rattle.claims.specs.History.{Among, Distinct, none, more, within, holds, unless, without, blank, setOf}
+use Rattle.layout.specs.Bytes.{savedAt, wordAt}
+use Rattle.claims.specs.History.{Among, Distinct, none, more, within, holds, unless, without, filedAt, filed, blank, setOf}
 
 -- ---- the test is Picture's `Has`
 
@@ -71,6 +72,29 @@ unfolding without
 distinct-without x y [] none = none
 distinct-without x y (v ∷ S) (more n d) =
     distinct-unless (holds v x y) v (without x y S) (λ m. n (among-without x y S v m .0)) (distinct-without x y S d)
+
+-- ---- the records of a file
+
+pub filed-length : (bs : List ℕ) (n : ℕ) → length (filed bs n) ≡ n
+unfolding filed
+filed-length bs zero = refl
+filed-length bs (suc n) = ap suc (filed-length bs n)
+
+pub filed-among : (bs : List ℕ) (n m : ℕ) → m < n → Among (filed bs n) (filedAt bs m)
+unfolding filed
+filed-among bs zero m h = absurd (not-suc-le-zero h)
+filed-among bs (suc n) m h = below-suc m n h (λ k. List·Memᴰ·tail (filed-among bs n m k)) (λ e. List·Memᴰ·head (ap (filedAt bs) e))
+
+pub among-filed : (bs : List ℕ) (n : ℕ) (v : Tile) → Among (filed bs n) v → (m : ℕ) × (m < n) × (v ≡ filedAt bs m)
+unfolding filed
+among-filed bs zero v i = absurd (List·Memᴰ·not-nil i)
+among-filed bs (suc n) v (List·Memᴰ·head e) = (n, omega arith, e)
+among-filed bs (suc n) v (List·Memᴰ·tail i) = let (m, h, e) = among-filed bs n v i in (m, omega arith, e)
+
+-- a label read from a file is a word
+pub filed-label : (bs : List ℕ) (n : ℕ) → savedAt bs n .label < 2 ^ 32
+unfolding savedAt wordAt
+filed-label bs n = omega arith
 
 -- ---- the account as a set
 

@@ -2,7 +2,7 @@
 use mathlib.Core.Path.{_≡_, sym, _∙_, subst}
 use mathlib.Core.Logic.{_≢_, _⊎_, inl, inr, ⊎-elim}
 use mathlib.Core.List.{List}
-use Prim.Native.Nat.{ℕ, _/_}
+use Prim.Native.Nat.{ℕ, _/_, _<_, _^_}
 use native.Mathlib.Omega.{arith}
 use lib.IntN.{ℤ, pos}
 use lib.ListN.{length}
@@ -69,10 +69,10 @@ fresh-steps t t′ a c S = go c
     go (FreshSays.size n e w) = (_, Step.fresh-refused c (not-done e (λ e. omega arith)))
     go (FreshSays.done s e w) = (_, Step.begins (Begins.fresh c (number-is e)))
 
-pub create-steps : (t : List ℤ) (A : Area) (label : ℕ) (t′ : List ℤ) (a : Answer) → CreateSays t A label t′ a → (S : List Tile)
+pub create-steps : (t : List ℤ) (A : Area) (label : ℕ) (t′ : List ℤ) (a : Answer) → label < 2 ^ 32 → CreateSays t A label t′ a → (S : List Tile)
     → (S′ : List Tile) × Step t S t′ S′
-create-steps t A label t′ a (CreateSays.refuses r w) S = (S, subst (λ t′. Step t S t′ S) (sym w) (Step.create-refused r))
-create-steps t A label t′ a (CreateSays.done k d e) S = (_, Step.create d)
+create-steps t A label t′ a b (CreateSays.refuses r w) S = (S, subst (λ t′. Step t S t′ S) (sym w) (Step.create-refused r))
+create-steps t A label t′ a b (CreateSays.done k d e) S = (_, Step.create b d)
 
 pub delete-steps : (t : List ℤ) (x y : ℕ) (t′ : List ℤ) (a : Answer) → DeleteSays t x y t′ a → (S : List Tile) → (S′ : List Tile) × Step t S t′ S′
 delete-steps t x y t′ a (DeleteSays.refuses r w) S = (S, subst (λ t′. Step t S t′ S) (sym w) (Step.delete-refused r))

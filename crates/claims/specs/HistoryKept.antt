@@ -2,7 +2,7 @@
 use mathlib.Core.Path.{_≡_, refl, sym, ap, _∙_, subst}
 use mathlib.Core.Logic.{_≢_, _↔_, ⊎-elim}
 use mathlib.Core.List.{List, [], _∷_, List·Memᴰ·head, List·Memᴰ·tail, List·Memᴰ·not-nil, List·Memᴰ·cases-cons}
-use Prim.Native.Nat.{ℕ, zero, suc, _/_}
+use Prim.Native.Nat.{ℕ, zero, suc, _/_, _<_, _^_}
 use native.Mathlib.Omega.{arith}
 use lib.IntN.{ℤ}
 use lib.ListN.{length, getD}
@@ -25,7 +25,7 @@ use Rattle.claims.specs.AgreePicture.{Shows, shows, SameTiles, space-agr
 use Rattle.claims.specs.AgreeCreate.{edited-fit}
 use Rattle.claims.specs.AgreeLoad.{fresh-fit}
 use Rattle.claims.specs.History.{Among, Distinct, without, filed, Begins, Step, History, blank, setOf, spaceTile, Kept}
-use Rattle.claims.specs.HistoryAccount.{among-without, without-among, distinct-without, at-among, among-at, distinct-at, set-number}
+use Rattle.claims.specs.HistoryAccount.{filed-label, among-without, without-among, distinct-without, at-among, among-at, distinct-at, set-number}
 use Rattle.claims.specs.HistoryCalls.{fresh-done, fresh-left, load-done, load-fresh, load-left}
 
 -- what the steps carry on
@@ -33,6 +33,7 @@ record Shown (t : List ℤ) (S : List Tile) : Type 0 where
   fit : Fit t
   solids : (v : Tile) → Among S v ↔ Shows t v
   once : Distinct S
+  labels : (v : Tile) → Among S v → v .label < 2 ^ 32
 
 -- ---- a fresh plane
 
@@ -49,11 +50,12 @@ fresh-shown t s =
         λ h. absurd (one-no-solid (freshTable (length t)) (fresh-one (length t) (omega (arith, s .least))) (h .at) (h .solid)),
       );
       once = Distinct.none;
+      labels = λ v m. absurd (List·Memᴰ·not-nil m);
     }
 
 -- ---- create
 
-module _ (t : List ℤ) (S : List Tile) (k : Shown t S) (A : Area) (label : ℕ) (t′ : List ℤ) (at : ℕ) (d : CreateDone t A label t′ at) where
+module _ (t : List ℤ) (S : List Tile) (k : Shown t S) (A : Area) (label : ℕ) (b : label < 2 ^ 32) (t′ : List ℤ) (at : ℕ) (d : CreateDone t A label t′ at) where
   -- the rectangle's own corner is free
   not-there : Among S (drawn A label) → ⊥
   not-there m =
@@ -81,6 +83,7 @@ module _ (t : List ℤ) (S : List Tile) (k : Shown t S) (A : Area) (label : ℕ)
           new-among v,
         );
         once = Distinct.more not-there (k .once);
+        labels = λ v m. ⊎-elim (λ e. subst (λ v. v .label < 2 ^ 32) (sym e) b) (k .labels v) (List·Memᴰ·cases-cons m);
       }
 
 -- ---- delete
@@ -108,6 +111,7 @@ module _ (t : List ℤ) (S : List Tile) (k : Shown t S) (x y : ℕ) (t′ : List
         fit = edited-fit t t′ (k .fit) (d .edited);
         solids = λ v. (λ m. let (a, n) = among-without x y S v m in left-shown v (k .solids v .0 a) n, left-among v);
         once = distinct-without x y S (k .once);
+        labels = λ v m. k .labels v (among-without x y S v m .0);
       }
 
 -- ---- load
@@ -119,7 +123,7 @@ built-shown t s bs m (suc n) u e Built.none = absurd (omega arith)
 built-shown t s bs m zero u e (Built.more {n = k} b i c) = absurd (omega arith)
 built-shown t s bs m (suc n) u e (Built.more {n = k} {u = w} b i c) =
     let q : k ≡ n = omega arith in
-    create-shown w (filed bs n) (built-shown t s bs k n w q b) (areaIn bs n) (savedAt bs n .label) u i
+    create-shown w (filed bs n) (built-shown t s bs k n w q b) (areaIn bs n) (savedAt bs n .label) (filed-label bs n) u i
     (subst (λ n. CreateDone w (areaIn bs n) (savedAt bs n .label) u i) q c)
 
 -- ---- every history
@@ -140,12 +144,12 @@ step-shown : (t t′ : List ℤ) (S S′ : List Tile) → Shown t S → Step t S
 step-shown t t′ S S′ k (Step.begins b) = begins-shown t t′ S′ b
 step-shown t t′ S S′ k (Step.fresh-refused {a = a} c h) = same-shown t t′ S k (fresh-left t t′ a c h)
 step-shown t t′ S S′ k (Step.load-unread {bs = bs} {a = a} c h) = same-shown t t′ S k (load-left t bs t′ a c h)
-step-shown t t′ S S′ k (Step.create {A = A} {label = l} {k = i} d) = create-shown t S k A l t′ i d
+step-shown t t′ S S′ k (Step.create {A = A} {label = l} {k = i} w d) = create-shown t S k A l w t′ i d
 step-shown t t′ S S′ k (Step.create-refused r) = k
 step-shown t t′ S S′ k (Step.delete {x = x} {y = y} {i = i} d) = delete-shown t S k x y t′ i d
 step-shown t t′ S S′ k (Step.delete-refused r) = k
 step-shown t t′ S S′ k (Step.check c) = k
-step-shown t t′ S S′ k (Step.view c) = k
+step-shown t t′ S S′ k (Step.view e c) = k
 step-shown t t′ S S′ k (Step.find c) = k
 step-shown t t′ S S′ k (Step.neighbours c) = k
 step-shown t t′ S S′ k (Step.search c) = k
@@ -219,6 +223,7 @@ module _ (t : List ℤ) (S : List Tile) (k : Shown t S) where
         sound = k .fit .sound;
         solids = k .solids;
         once = k .once;
+        labels = k .labels;
         number = account-number;
         fits = omega (arith, account-number, f .few);
         held = λ x y p. one-holder (recordsOf t) (tileOf t) (f .widest) x y p;
@@ -230,6 +235,9 @@ module _ (t : List ℤ) (S : List Tile) (k : Shown t S) where
         few = sound-three t (k .fit .size .most) (k .fit .sound);
         for = account-for;
       }
+
+pub built-kept : (t : List ℤ) → SizeRight t → (bs : List ℕ) (n : ℕ) (u : List ℤ) → Built (length t) bs n u → Kept u (filed bs n)
+built-kept t s bs n u b = shown-kept u (filed bs n) (built-shown t s bs n n u refl b)
 
 pub history-kept : {t : List ℤ} {S : List Tile} → History t S → Kept t S
 history-kept {t} {S} h = shown-kept t S (history-shown t S h)

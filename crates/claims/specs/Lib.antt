@@ -2,6 +2,8 @@
 pub mod AgreeChecks
 pub mod AgreeReads
 pub mod AgreePicture
+pub mod Pictures
+pub mod AgreeTables
 pub mod AgreeCreate
 pub mod AgreeDelete
 pub mod AgreeLoad
@@ -11,13 +13,14 @@ pub mod HistoryAccount
 pub mod HistoryCalls
 pub mod HistoryKept
 pub mod HistoryExact
-pub mod Pictures
 pub mod Renamed
 pub mod Draws
 pub mod Tests
 pub mod Tables
 pub mod Allowed
+pub mod CleanFile
 pub mod Examples
 pub mod ExamplesHold
+pub mod SavedFile
 pub mod RoundTrip
 pub mod Shams

@@ -1,32 +1,39 @@
 -- Sham programs that the promises shut out: what each of them would answer, or leave in the table, is allowed by no promise. Assumes nothing.
-use mathlib.Core.Path.{_≡_, refl, sym, ap, subst}
+use mathlib.Core.Path.{_≡_, refl, sym, ap, _∙_, subst}
 use mathlib.Core.Logic.{_≢_}
-use mathlib.Core.List.{List, _∷_, List·Memᴰ·head, List·Memᴰ·tail}
-use Prim.Native.Nat.{ℕ, _≤_, _<_}
+use mathlib.Core.List.{List, _∷_, List·Memᴰ·head, List·Memᴰ·tail, List·Memᴰ·not-nil}
+use Prim.Native.Nat.{ℕ, _*_, _/_, _%_, _≤_, _<_}
 use native.Mathlib.Omega.{arith}
 use lib.IntN.{ℤ, pos, negsuc}
 use lib.ListN.{length}
+use denote.Ref.{now}
 use Rattle.ruler.specs.Ruler.{ruler}
 use Rattle.geometry.specs.Cases.{lt-cases}
-use Rattle.geometry.specs.Picture.{ZERO, InPlane, Tile, Has}
+use Rattle.geometry.specs.Picture.{InPlane, Tile, Has}
 use Rattle.geometry.specs.Tiling.{one-holder}
-use Rattle.table.specs.Words.{recordsOf, tileOf}
+use Rattle.table.specs.Words.{WIDTH, recordsOf, tileOf}
 use Rattle.table.specs.Sound.{SizeRight, capacity, solidsIn}
+use Rattle.table.specs.View.{Places, Slice, IsPart}
+use Rattle.table.specs.Fresh.{freshTable}
+use Rattle.table.specs.FreshSound.{fresh-length}
 use Rattle.seek.specs.Meaning.{SolidIn, Area, InArea, RectRight, FreeArea, Directed}
 use Rattle.seek.specs.Find.{Finds}
+use Rattle.seek.specs.Neighbours.{sideOf, Neighbours}
 use Rattle.ushanderi.specs.Answers.{DONE, SIZE, UNSOUND, RECT, SHORT, answered, accepted, nothing}
 use Rattle.ushanderi.specs.declared.answer.Answer.{Answer}
-use Rattle.ushanderi.specs.Promises.{Unfit, Fit, FreshSays, CheckSays, FindSays, listed, SearchSays, EnumerateSays, CreateSays, DeleteSays}
+use Rattle.ushanderi.specs.Promises.{Unfit, Fit, FreshSays, CheckSays, ViewSays, FindSays, listed, NeighboursSays, SearchSays, EnumerateSays, CreateAllows, CreateSays, DeleteSays, SaveSays, LoadSays}
 use Rattle.claims.specs.AgreeChecks.{fit-forms, not-fit, number-is}
 use Rattle.claims.specs.AgreePicture.{Shows}
-use Rattle.claims.specs.AgreeReads.{check-agrees, enumerate-agrees}
+use Rattle.claims.specs.AgreeReads.{fresh-agrees, check-agrees, view-placed, enumerate-agrees}
 use Rattle.claims.specs.AgreeCreate.{Created, create-done}
 use Rattle.claims.specs.AgreeDelete.{delete-done}
-use Rattle.claims.specs.History.{Among, Distinct, History}
-use Rattle.claims.specs.HistoryKept.{history-kept}
-use Rattle.claims.specs.Draws.{Draws, areaOf}
+use Rattle.claims.specs.History.{Among, Distinct, filedAt, filed, Begins, History}
+use Rattle.claims.specs.HistoryAccount.{filed-among}
+use Rattle.claims.specs.HistoryKept.{built-kept, history-kept}
+use Rattle.claims.specs.Draws.{Draws, areaOf, fresh-draws}
 use Rattle.claims.specs.Tables.{area, A, B, C}
-use Rattle.claims.specs.Allowed.{find-is, search-free, creates, deletes}
+use Rattle.claims.specs.Allowed.{never-refused, find-is, search-free, deletes, saves}
+use Rattle.claims.specs.CleanFile.{Clean, clean-loads}
 use Rattle.claims.specs.Examples.{ABC}
 use Rattle.claims.specs.ExamplesHold.{second-done, after-A}
 
@@ -43,10 +50,17 @@ pub record NoRefusal : Type 0 where
   pub fresh : (t t′ : List ℤ) (a : Answer) → SizeRight t → FreshSays t t′ a → Refuses a → ⊥
   pub check : (t : List ℤ) (a : Answer) → Fit t → CheckSays t a → Refuses a → ⊥
   pub find : (t : List ℤ) (x y : ℕ) (a : Answer) → Fit t → InPlane x y → FindSays t x y a → Refuses a → ⊥
+  -- the lent list is not shorter than needed
+  pub neighbours : (t : List ℤ) (x y s : ℕ) (out out′ : List ℤ) (a : Answer) → Fit t → InPlane x y → s < 4
+      → ((i : ℕ) (ks : List ℕ) → Finds t x y i → Neighbours t (sideOf s) i ks → length ks ≤ length out)
+      → NeighboursSays t x y (pos s) out out′ a → Refuses a → ⊥
   pub search : (t : List ℤ) (R : Area) (a : Answer) → Fit t → RectRight R → SearchSays t R a → Refuses a → ⊥
-  pub create : (t : List ℤ) (R : Area) (label : ℕ) (t′ : List ℤ) (a : Answer) → Fit t → RectRight R → ZERO < label → FreeArea t R
-      → solidsIn t < capacity (recordsOf t) → CreateSays t R label t′ a → Refuses a → ⊥
+  pub enumerate : (t : List ℤ) (R : Area) (out out′ : List ℤ) (a : Answer) → Fit t → RectRight R
+      → ((ks : List ℕ) → Directed t R ks → length ks ≤ length out) → EnumerateSays t R out out′ a → Refuses a → ⊥
+  pub create : (t : List ℤ) (R : Area) (label : ℕ) (t′ : List ℤ) (a : Answer) → CreateAllows t R label → CreateSays t R label t′ a → Refuses a → ⊥
   pub delete : (t : List ℤ) (x y i : ℕ) (t′ : List ℤ) (a : Answer) → Fit t → Finds t x y i → SolidIn t i → DeleteSays t x y t′ a → Refuses a → ⊥
+  pub save : (t : List ℤ) (out out′ : List ℕ) (a : Answer) → Fit t → 20 * solidsIn t ≤ length out → SaveSays t out out′ a → Refuses a → ⊥
+  pub load : (t t′ : List ℤ) (bs : List ℕ) (a : Answer) → SizeRight t → Clean bs (capacity (recordsOf t)) → LoadSays t bs t′ a → Refuses a → ⊥
 
 no-refused-fresh : (t t′ : List ℤ) (a : Answer) → SizeRight t → FreshSays t t′ a → Refuses a → ⊥
 no-refused-fresh t t′ a s (FreshSays.size n e w) r = n s
@@ -57,20 +71,47 @@ no-refused-find t x y a f p s r =
     let h = one-holder (recordsOf t) (tileOf t) (fit-forms t f .widest) x y p in
     accepts a (h .number) (find-is t f x y (h .number) a (record { used = h .used; has = h .has }) s) r
 
+no-refused-neighbours : (t : List ℤ) (x y s : ℕ) (out out′ : List ℤ) (a : Answer) → Fit t → InPlane x y → s < 4
+    → ((i : ℕ) (ks : List ℕ) → Finds t x y i → Neighbours t (sideOf s) i ks → length ks ≤ length out)
+    → NeighboursSays t x y (pos s) out out′ a → Refuses a → ⊥
+no-refused-neighbours t x y s out out′ a f p b l (NeighboursSays.unfit u w) r = not-fit t a u f
+no-refused-neighbours t x y s out out′ a f p b l (NeighboursSays.point g n e w) r = n p
+no-refused-neighbours t x y s out out′ a f p b l (NeighboursSays.side g q n e w) r = n s (record { is = refl; below = b })
+no-refused-neighbours t x y s out out′ a f p b l (NeighboursSays.short g c i ks d h m o e w) r =
+    let z : pos c ≡ pos s = sym (d .is) in
+    let q : c ≡ s = cc in
+    omega (arith, l i ks h (subst (λ s. Neighbours t (sideOf s) i ks) q m))
+no-refused-neighbours t x y s out out′ a f p b l (NeighboursSays.done g c i ks d h m o e w) r = accepts a (length ks) e r
+
 no-refused-search : (t : List ℤ) (R : Area) (a : Answer) → Fit t → RectRight R → SearchSays t R a → Refuses a → ⊥
 no-refused-search t R a f q (SearchSays.unfit u) r = not-fit t a u f
 no-refused-search t R a f q (SearchSays.rect g n e) r = n q
 no-refused-search t R a f q (SearchSays.free g p h e) r = r (ap (λ a. a .number) e)
 no-refused-search t R a f q (SearchSays.met g p x y i h e) r = accepts a i e r
 
+no-refused-enumerate : (t : List ℤ) (R : Area) (out out′ : List ℤ) (a : Answer) → Fit t → RectRight R
+    → ((ks : List ℕ) → Directed t R ks → length ks ≤ length out) → EnumerateSays t R out out′ a → Refuses a → ⊥
+no-refused-enumerate t R out out′ a f q l (EnumerateSays.unfit u w) r = not-fit t a u f
+no-refused-enumerate t R out out′ a f q l (EnumerateSays.rect g n e w) r = n q
+no-refused-enumerate t R out out′ a f q l (EnumerateSays.short g p ks d h e w) r = omega (arith, l ks d)
+no-refused-enumerate t R out out′ a f q l (EnumerateSays.done g p ks d h e w) r = accepts a (length ks) e r
+
+no-refused-create : (t : List ℤ) (R : Area) (label : ℕ) (t′ : List ℤ) (a : Answer) → CreateAllows t R label → CreateSays t R label t′ a → Refuses a → ⊥
+no-refused-create t R label t′ a g (CreateSays.refuses o w) r = never-refused g o
+no-refused-create t R label t′ a g (CreateSays.done k d e) r = accepts a k e r
+
 pub no-refusal : NoRefusal
 no-refusal = record {
   fresh = no-refused-fresh;
   check = λ t a f s r. accepts a (solidsIn t) (check-agrees t a (accepted (solidsIn t)) s (CheckSays.done f refl)) r;
   find = no-refused-find;
+  neighbours = no-refused-neighbours;
   search = no-refused-search;
-  create = λ t R label t′ a f p l h n s r. let c = creates t f R label p l t′ a h n s in accepts a (c .at) (c .is) r;
+  enumerate = no-refused-enumerate;
+  create = no-refused-create;
   delete = λ t x y i t′ a f h o s r. accepts a _ (deletes t f x y i h t′ a o s .0) r;
+  save = λ t out out′ a f l s r. accepts a (20 * solidsIn t) (saves t f out out′ a l s .is) r;
+  load = λ t t′ bs a z c s r. accepts a (length bs / 20) (clean-loads t z bs c t′ a s .0) r;
 }
 
 -- as with A, B and C at (9, 9)
@@ -107,7 +148,10 @@ not-free-abc t d =
 pub but-free : (t : List ℤ) (R : Area) (a : Answer) → Fit t → RectRight R → FreeArea t R → SearchSays t R a → a ≢ nothing → ⊥
 but-free t R a f r h s n = n (search-free t f R a r h s)
 
--- ---- one whose create, or delete, writes nothing
+-- ---- one whose create, delete, fresh or load writes nothing
+
+fresh-shows : (t : List ℤ) → SizeRight t → (v : Tile) → Shows (freshTable (length t)) v → ⊥
+fresh-shows t z v s = List·Memᴰ·not-nil (fresh-draws t z .each (s .at) (s .solid))
 
 pub create-writes : (t : List ℤ) (R : Area) (label : ℕ) (t′ : List ℤ) (a : Answer) → CreateSays t R label t′ a → a .number ≡ pos DONE → t′ ≡ t → ⊥
 create-writes t R label t′ a c e w =
@@ -118,6 +162,25 @@ pub delete-writes : (t : List ℤ) (x y : ℕ) (t′ : List ℤ) (a : Answer) �
 delete-writes t x y t′ a c e w =
     let d = delete-done c e in
     d .done .removes .only (d .at) (subst (λ t. SolidIn t (d .at)) (sym w) (d .done .allows .solid)) .1 refl
+
+-- fresh, where the table has a solid
+pub fresh-writes : (t t′ : List ℤ) (v : Tile) (a : Answer) → SizeRight t → Shows t v → FreshSays t t′ a → t′ ≡ t → ⊥
+fresh-writes t t′ v a z s (FreshSays.size n e w) q = n z
+fresh-writes t t′ v a z s (FreshSays.done y e w) q = fresh-shows t z v (subst (λ t. Shows t v) (sym q ∙ w) s)
+
+-- load of whole records, where the table has a solid that the file has not
+pub load-writes : (t t′ : List ℤ) (bs : List ℕ) (v : Tile) (a : Answer) → SizeRight t → length bs % 20 ≡ 0 → Shows t v
+    → (Among (filed bs (length bs / 20)) v → ⊥) → LoadSays t bs t′ a → t′ ≡ t → ⊥
+load-writes t t′ bs v a z d s m (LoadSays.size n e w) q = n z
+load-writes t t′ bs v a z d s m (LoadSays.file y n e w) q = n d
+load-writes t t′ bs v a z d s m (LoadSays.stopped c w) q = fresh-shows t z v (subst (λ t. Shows t v) (sym q ∙ w) s)
+load-writes t t′ bs v a z d s m (LoadSays.done y r b e) q =
+    m (built-kept t z bs (length bs / 20) t′ b .solids v .1 (subst (λ t. Shows t v) (sym q) s))
+
+-- load that ends well, where the file has a solid that the table has not
+pub load-draws : (t t′ : List ℤ) (bs : List ℕ) (v : Tile) (a : Answer) → LoadSays t bs t′ a → a .number ≡ pos DONE
+    → Among (filed bs (length bs / 20)) v → (Shows t v → ⊥) → t′ ≡ t → ⊥
+load-draws t t′ bs v a s e i n q = n (subst (λ t. Shows t v) q (history-kept (History.start (Begins.load s e)) .solids v .0 i))
 
 -- ---- one whose second and later calls write nothing
 
@@ -131,6 +194,31 @@ second-writes t t₀ t₁ t₂ a₀ a₁ a₂ z n f s₁ s₂ w =
     let o = after-A t t₀ t₁ a₀ a₁ z f s₁ in
     let r = o .records in
     created-writes t₁ (areaOf B) (B .label) t₂ a₂ s₂ (second-done t₁ (o .draws) (omega arith) t₂ a₂ s₂) w
+
+-- A and then fresh once more
+pub second-fresh-writes : (t t₀ t₁ t₂ : List ℤ) (a₀ a₁ a₂ : Answer) → SizeRight t → FreshSays t t₀ a₀
+    → CreateSays t₀ (areaOf A) (A .label) t₁ a₁ → FreshSays t₁ t₂ a₂ → t₂ ≡ t₁ → ⊥
+second-fresh-writes t t₀ t₁ t₂ a₀ a₁ a₂ z f s₁ s₂ w =
+    let d = after-A t t₀ t₁ a₀ a₁ z f s₁ .draws in
+    fresh-writes t₁ t₂ A a₂ (d .fit .size) (d .all A (List·Memᴰ·head refl)) s₂ w
+
+-- fresh and then a load that no check refuses, of one record or more
+pub second-load-writes : (t t₀ t₁ : List ℤ) (bs : List ℕ) (a₀ a₁ : Answer) → SizeRight t → FreshSays t t₀ a₀ → Clean bs (capacity (recordsOf t))
+    → 0 < length bs / 20 → LoadSays t₀ bs t₁ a₁ → t₁ ≡ t₀ → ⊥
+second-load-writes t t₀ t₁ bs a₀ a₁ z f c h s w =
+    let e = fresh-agrees t t₀ (freshTable (length t)) a₀ (accepted 0) f (FreshSays.done z refl refl) .1 in
+    let l : length t₀ ≡ length t = ap length e ∙ fresh-length (length t) (omega (arith, z .least)) in
+    let y : SizeRight t₀ = omega (arith, z) in
+    let d = clean-loads t₀ y bs (subst (λ n. Clean bs (capacity (n / WIDTH))) (sym l) c) t₁ a₁ s .0 in
+    load-draws t₀ t₁ bs (filedAt bs 0) a₁ s (number-is d) (filed-among bs (length bs / 20) 0 h)
+    (λ o. fresh-shows t z (filedAt bs 0) (subst (λ t. Shows t (filedAt bs 0)) e o)) w
+
+-- a load that ends well and then another, of whole records, whose file lacks one of the solids
+pub load-after-load-writes : (t t₁ t₂ : List ℤ) (bs cs : List ℕ) (v : Tile) (a₁ a₂ : Answer) → LoadSays t bs t₁ a₁ → a₁ .number ≡ pos DONE
+    → Among (filed bs (length bs / 20)) v → length cs % 20 ≡ 0 → (Among (filed cs (length cs / 20)) v → ⊥) → LoadSays t₁ cs t₂ a₂ → t₂ ≡ t₁ → ⊥
+load-after-load-writes t t₁ t₂ bs cs v a₁ a₂ s₁ e i d m s₂ w =
+    let k = history-kept (History.start (Begins.load s₁ e)) in
+    load-writes t₁ t₂ cs v a₂ (k .size) d (k .solids v .0 i) m s₂ w
 
 -- over any history: a table that still draws the earlier account is not the table after one accepted create more
 pub later-writes : (t : List ℤ) (v : Tile) (S : List Tile) → History t (v ∷ S) → Draws t S → ⊥
@@ -157,3 +245,11 @@ module _ (t : List ℤ) (R : Area) (f : Fit t) (r : RectRight R) (ks : List ℕ)
 
   pub not-invented : (number count : ℕ) → count ≢ length ks → EnumerateSays t R out out′ (answered number count) → ⊥
   not-invented number count n s = n (count-fixed number count s)
+
+-- ---- one whose view gives the part of another record, which may hold the same words
+
+pub own-part : (lent part : Slice) (i j : ℕ) → SizeRight (now lent) → i < recordsOf (now lent) → ViewSays lent (pos i) part
+    → IsPart lent (WIDTH * j) WIDTH part → i ≢ j → ⊥
+own-part lent part i j s h v p n =
+    let q = view-placed lent (pos i) part (WIDTH * i) WIDTH v (Places.there i (record { size = s; below = h; is = refl }) refl refl) in
+    n (omega (arith, p .byte, q .byte))

@@ -1,10 +1,11 @@
--- The words of one record as the table itself shows them. Assumes nothing.
+-- The words of one record as the table itself shows them: where they lie, and the part of the lent slice that they are. Assumes nothing.
 use mathlib.Core.Path.{_≡_, ap, _∙_}
 use mathlib.Core.List.{List}
 use Prim.Native.Nat.{ℕ, _+_, _*_, _≤_, _<_}
 use native.Mathlib.Omega.{arith}
 use lib.IntN.{ℤ, pos}
 use lib.ListN.{length, take, drop}
+use denote.Ref.{RefT, now}
 use Rattle.ruler.specs.Ruler.{ruler, ruler-pos}
 use Rattle.geometry.specs.Picture.{ZERO}
 use Rattle.table.specs.Words.{WIDTH, recordsOf}
@@ -21,9 +22,15 @@ pub data Places (t : List ℤ) (index : ℤ) (at len : ℕ) : Type 0 where
   nowhere : ((i : ℕ) → Numbers t index i → ⊥) → at ≡ 0 → len ≡ 0 → Places t index at len
   there : (i : ℕ) → Numbers t index i → at ≡ WIDTH * i → len ≡ WIDTH → Places t index at len
 
--- those words
-abbrev pub partOf : List ℤ → ℕ → ℕ → List ℤ
-partOf t at len = take len (drop at t)
+-- a lent slice of words: where it begins, as a block of memory and a byte of it, and the words there
+abbrev pub Slice : Type 0
+Slice = RefT (List ℤ)
+
+-- the part of a lent slice that is its `len` words from `at` on, four bytes to a word
+pub record IsPart (s : Slice) (at len : ℕ) (part : Slice) : Type 0 where
+  pub block : part .ptr .0 ≡ s .ptr .0
+  pub byte : part .ptr .1 ≡ s .ptr .1 + 4 * at
+  pub words : now part ≡ take len (drop at (now s))
 
 -- no record is numbered by a word below 0, by one past the records, or where the size is wrong
 pub numbers-is : (t : List ℤ) (index : ℤ) (i : ℕ) → Numbers t index i → ruler index ≡ i + ZERO

@@ -5,13 +5,14 @@ use mathlib.Core.List.{List, _++_, map}
 use Prim.Native.Nat.{ℕ, _+_, _-_, _*_, _/_, _%_, _≤_, _<_}
 use lib.IntN.{ℤ, pos}
 use lib.ListN.{length, drop}
+use denote.Ref.{now}
 use Rattle.geometry.specs.Picture
 use Rattle.geometry.specs.Picture.{ZERO, InPlane}
 use Rattle.table.specs.Words.{KIND, recordsOf, num}
 use Rattle.table.specs.Words
 use Rattle.table.specs.Sound.{SizeRight, Sound, capacity, solidsIn}
 use Rattle.table.specs.Fresh.{freshTable}
-use Rattle.table.specs.View.{Places, partOf}
+use Rattle.table.specs.View.{Places, Slice, IsPart}
 use Rattle.seek.specs.Meaning.{SolidIn, Area, RectRight, FreeArea, First, Lists, Directed}
 use Rattle.seek.specs.Find.{Finds}
 use Rattle.seek.specs.Neighbours.{sideOf, Neighbours}
@@ -41,11 +42,11 @@ pub data CheckSays (t : List ℤ) (a : Answer) : Type 0 where
   done : Fit t → a ≡ accepted (solidsIn t) → CheckSays t a
 
 -- View: the ten words of that record as the caller's own slice shows them. On a SIZE fault, or a number not in 0..R-1, an empty part.
-pub record ViewSays (t : List ℤ) (index : ℤ) (part : List ℤ) : Type 0 where
+pub record ViewSays (lent : Slice) (index : ℤ) (part : Slice) : Type 0 where
   pub at : ℕ
   pub len : ℕ
-  pub place : Places t index at len
-  pub is : part ≡ partOf t at len
+  pub place : Places (now lent) index at len
+  pub is : IsPart lent at len part
 
 -- Find, with a cell: 1, 2, 3. Value: the record that holds the cell. The hint is no part of it.
 pub data FindSays (t : List ℤ) (x y : ℕ) (a : Answer) : Type 0 where

@@ -26,7 +26,7 @@ pub fn check(t: &[i32]) -> Answer
 }
 
 pub fn view(t: &[i32], index: i32) -> &[i32]
-    ensures { λ r. ⌜ ViewSays (now (t .entry)) index (now r) ⌝ }
+    ensures { λ r. ⌜ ViewSays (t .entry) index r ⌝ }
 {
     let p = table::place(t, index);
     let at = p.at;

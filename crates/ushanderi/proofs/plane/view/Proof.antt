@@ -1,4 +1,4 @@
-use mathlib.Core.Path.{subst}
+use mathlib.Core.Path.{refl, subst}
 use native.Mathlib.Nat.{add-sub-cancel-left}
 use native.Mathlib.Omega.{arith}
 use mir.Facts.{toZ-ofZ}
@@ -40,7 +40,7 @@ returns c =
       at = k .result .at;
       len = k .result .len;
       place = subst (λ i. Places (s .args .t .now) i (k .result .at) (k .result .len)) (toZ-ofZ (s .fits .index)) (k .ensures);
-      is = simp (add-sub-cancel-left (k .result .at) (k .result .len));
+      is = record { block = refl; byte = omega arith; words = simp (add-sub-cancel-left (k .result .at) (k .result .len)) };
     }
 
 pub view-spec : {M : Type 1} → statement M

@@ -39,28 +39,40 @@ returns-4 c q e h =
     wall-rim t (s .args .n) (s .args .c) (c .follow .result) (left .result) (forms-tidy t (s .pre .0) (s .pre .1 .0 .most)) (record { below = q; kind = e })
     (left .ensures .is) (omega arith) (c .follow .ensures)
 
+left-over-requires : tie.Need-left-over-requires
+left-over-requires c κs = search needs
+
+start-requires : tie.Need-start-requires
+start-requires c κs =
+    let s = c .before .before .before .before .before .before .before .before .before in
+    let r = c .before .before .before .before .before .before .before .before .records .ensures in
+    let i₁ = c .before .before .before .before .before .before .before .if1 .left in
+    let w = c .before .before .before .before .before .before .word .ensures .is in
+    let i₂ = c .before .before .before .before .before .if2 .left in
+    record { below = omega arith; used = λ e. omega arith }
+
 sub-find : tie.Need-sub-find
 sub-find c = search needs
 
 find-requires : tie.Need-find-requires
 find-requires c κs =
-    let s = c .before .before .before .before .before .before .before .before in
+    let s = c .before .before .before .before .before .before .before .before .before .before in
     let t = s .args .t .now in
     let n = s .args .n in
-    let left = c .before .word3 in
-    let r = c .before .before .before .before .before .before .before .records .ensures in
-    let i₁ = c .before .before .before .before .before .before .if1 .left in
-    let w = c .before .before .before .before .before .word .ensures .is in
-    let i₂ = c .before .before .before .before .if2 .left in
-    let b = c .before .before .before .word2 .ensures .is in
-    let i₃ = c .before .before .if3 .left in
-    let i₄ = c .if4 .left in
+    let left = c .before .before .before .word3 in
+    let r = c .before .before .before .before .before .before .before .before .before .records .ensures in
+    let i₁ = c .before .before .before .before .before .before .before .before .if1 .left in
+    let w = c .before .before .before .before .before .before .before .word .ensures .is in
+    let i₂ = c .before .before .before .before .before .before .if2 .left in
+    let b = c .before .before .before .before .before .word2 .ensures .is in
+    let i₃ = c .before .before .before .before .if3 .left in
+    let i₄ = c .before .before .if4 .left in
     let v : SpaceIn t n = record { below = omega arith; kind = omega arith } in (
       s .pre .0,
       (
         s .pre .1 .0,
         (
-          record { below = v .below; used = λ e. omega (arith, v .kind) },
+          c .start .ensures,
           wall-cell t n (s .args .c) (left .result) (forms-tidy t (s .pre .0) (s .pre .1 .0 .most)) v (left .ensures .is) (omega arith) (omega arith)
               (s .pre .1 .1 (v .below)),
         ),
@@ -69,10 +81,10 @@ find-requires c κs =
 
 returns-5 : tie.Need-returns-5
 returns-5 c q e h =
-    let s = c .before .before .before .before .before .before .before .before .before in
+    let s = c .before .before .before .before .before .before .before .before .before .before .before in
     let t = s .args .t .now in
-    let left = c .before .before .word3 in
-    let i = c .before .if4 .left in
+    let left = c .before .before .before .before .word3 in
+    let i = c .before .before .before .if4 .left in
     wall-found t (s .args .n) (s .args .c) (c .find .result) (left .result) (forms-tidy t (s .pre .0) (s .pre .1 .0 .most)) (record { below = q; kind = e })
     (left .ensures .is) (omega arith) h (s .pre .1 .1 q) (c .find .ensures .used) (c .find .ensures .has)
 
@@ -89,6 +101,8 @@ wall-of-spec =
     word-requires-3
     follow-requires
     returns-4
+    left-over-requires
+    start-requires
     sub-find
     find-requires
     returns-5)

@@ -7,11 +7,11 @@ use crate::answer::OCCUPIED;
 use crate::answer::RECT;
 use crate::entry::Entry;
 use crate::entry::enter;
-use crate::entry::rect_right;
 use crate::find::hint;
 use crate::search::search_from;
 use edit::create::create;
 use edit::delete::delete;
+use seek::Area;
 use table::numbers::WORDS;
 use table::numbers::ZERO;
 ghost use Rattle.repeated.specs.Says.{EditSays};
@@ -25,7 +25,13 @@ fn may_edit(t: &[i32], left: u64, bottom: u64, right: u64, top: u64, label: u64)
     if number != DONE {
         return number;
     }
-    if rect_right(left, bottom, right, top) {
+    let area = Area {
+        left,
+        bottom,
+        right,
+        top,
+    };
+    if seek::rect_right(area) {
         if label <= ZERO {
             return LABEL;
         }

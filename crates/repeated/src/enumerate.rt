@@ -5,7 +5,6 @@ use crate::answer::RECT;
 use crate::answer::SHORT;
 use crate::entry::Entry;
 use crate::entry::enter;
-use crate::entry::rect_right;
 use crate::find::hint;
 use seek::Area;
 ghost use Rattle.seek.specs.Meaning.{RectRight};
@@ -74,13 +73,13 @@ pub extern "C" fn rep_enumerate(
     if number != DONE {
         return Answer { number, value: 0 };
     }
-    if rect_right(left, bottom, right, top) {
-        let area = Area {
-            left,
-            bottom,
-            right,
-            top,
-        };
+    let area = Area {
+        left,
+        bottom,
+        right,
+        top,
+    };
+    if seek::rect_right(area) {
         return area_sound(t, area, list, times);
     }
     Answer {

@@ -1,5 +1,4 @@
 // The calls that change a plane: create and delete. Each decides first, which only reads, and then acts.
-ghost use mathlib.Core.Path.{_≡_};
 ghost use Prim.Native.Nat.{_<_, _^_};
 ghost use Rattle.table.specs.Sound.{UsedIn};
 ghost use Rattle.ruler.specs.Ruler.{ruler};
@@ -24,7 +23,6 @@ use crate::reading::Found;
 use crate::reading::area;
 use crate::reading::find;
 use crate::reading::found_answer;
-use crate::reading::rect_right;
 use seek::Area;
 use seek::Seen;
 use table::numbers;
@@ -40,7 +38,7 @@ fn may_create(t: &[i32], from: usize, area: Area, label: u64, solids: usize) -> 
     requires { ⌜ Ready (now t) from label solids ⌝ }
     ensures { λ r. ⌜ CreateDecides (now (t .entry)) (areaOf area) label r ⌝ }
 {
-    if rect_right(area) {
+    if seek::rect_right(area) {
         if label <= numbers::ZERO {
             return MayCreate::Refused(refused(LABEL));
         }

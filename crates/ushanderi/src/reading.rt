@@ -23,8 +23,6 @@ use crate::entry::admit;
 use crate::entry::entry_answer;
 use seek::Area;
 use seek::Seen;
-use table::numbers::HIGH;
-use table::numbers::LOW;
 use table::numbers::ZERO;
 
 // What find answers: the record that holds the cell, or why there is none.
@@ -147,37 +145,6 @@ pub(crate) fn area(left: i32, bottom: i32, right: i32, top: i32) -> Area
     }
 }
 
-// Whether RECT lets an area pass.
-pub(crate) fn rect_right(area: Area) -> bool
-    ensures { λ r. ⌜ T r ↔ RectRight (areaOf area) ⌝ }
-{
-    let Area {
-        left,
-        bottom,
-        right,
-        top,
-    } = area;
-    if right <= left {
-        return false;
-    }
-    if top <= bottom {
-        return false;
-    }
-    if left < LOW {
-        return false;
-    }
-    if HIGH < right {
-        return false;
-    }
-    if bottom < LOW {
-        return false;
-    }
-    if HIGH < top {
-        return false;
-    }
-    true
-}
-
 // The solid at an area's first occupied cell, on a table that passed the checks 1 and 2.
 fn search_in(t: &[i32], area: Area) -> Answer
     requires { ⌜ Fit (now t) ⌝ }
@@ -206,7 +173,7 @@ pub fn search(t: &[i32], left: i32, bottom: i32, right: i32, top: i32) -> Answer
         return entry_answer(e);
     };
     let a = area(left, bottom, right, top);
-    if rect_right(a) {
+    if seek::rect_right(a) {
         search_in(t, a)
     } else {
         Answer {
@@ -245,7 +212,7 @@ pub fn enumerate(t: &[i32], left: i32, bottom: i32, right: i32, top: i32, out: &
         return entry_answer(e);
     };
     let a = area(left, bottom, right, top);
-    if rect_right(a) {
+    if seek::rect_right(a) {
         enumerate_in(t, a, out)
     } else {
         Answer {

@@ -1,4 +1,6 @@
 // Create, and delete what was created, again and again.
+ghost use Rattle.repeated.specs.Says.{EditSays};
+ghost use Rattle.repeated.specs.Edit.{CanEdit, MayEdit, Edited};
 use crate::answer::Answer;
 use crate::answer::DONE;
 use crate::answer::FULL;
@@ -14,8 +16,6 @@ use edit::delete::delete;
 use seek::Area;
 use table::numbers::WORDS;
 use table::numbers::ZERO;
-ghost use Rattle.repeated.specs.Says.{EditSays};
-ghost use Rattle.repeated.specs.Edit.{CanEdit, MayEdit, Edited};
 
 // Why the solid cannot be created, or DONE.
 fn may_edit(t: &[i32], left: u64, bottom: u64, right: u64, top: u64, label: u64) -> u64

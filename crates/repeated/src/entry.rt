@@ -1,8 +1,8 @@
 // What is asked once, before the work: that the table is sound.
+ghost use Rattle.repeated.specs.Entry.{Enters};
 use crate::answer::DONE;
 use crate::answer::SIZE;
 use crate::answer::UNSOUND;
-ghost use Rattle.repeated.specs.Entry.{Enters};
 
 // The number of what is wrong with the table, or DONE, and then how many solids it has.
 pub struct Entry {

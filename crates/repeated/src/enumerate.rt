@@ -1,4 +1,8 @@
 // The directed order, again and again: the tiles are counted, and where there is room they are listed.
+ghost use Rattle.seek.specs.Meaning.{RectRight};
+ghost use Rattle.seek.specs.Enumerate.{areaOf};
+ghost use Rattle.repeated.specs.Entry.{Fit};
+ghost use Rattle.repeated.specs.Says.{EnumerateSays, AreaListed};
 use crate::answer::Answer;
 use crate::answer::DONE;
 use crate::answer::RECT;
@@ -7,10 +11,6 @@ use crate::entry::Entry;
 use crate::entry::enter;
 use crate::find::hint;
 use seek::Area;
-ghost use Rattle.seek.specs.Meaning.{RectRight};
-ghost use Rattle.seek.specs.Enumerate.{areaOf};
-ghost use Rattle.repeated.specs.Entry.{Fit};
-ghost use Rattle.repeated.specs.Says.{EnumerateSays, AreaListed};
 
 fn area_from(t: &[i32], hint: u64, area: Area, list: &mut [i32]) -> usize
     requires { ⌜ Fit (now t) ⌝ }

@@ -1,4 +1,7 @@
 // Area search, again and again.
+ghost use Rattle.seek.specs.Meaning.{RectRight};
+ghost use Rattle.repeated.specs.Entry.{Fit};
+ghost use Rattle.repeated.specs.Says.{SearchSays, Sees};
 use crate::answer::Answer;
 use crate::answer::DONE;
 use crate::answer::RECT;
@@ -7,9 +10,6 @@ use crate::entry::enter;
 use crate::find::hint;
 use seek::Area;
 use seek::Seen;
-ghost use Rattle.seek.specs.Meaning.{RectRight};
-ghost use Rattle.repeated.specs.Entry.{Fit};
-ghost use Rattle.repeated.specs.Says.{SearchSays, Sees};
 
 // One search, from the record that the hint names: the record of the first solid, or a number past the records.
 pub(crate) fn search_from(

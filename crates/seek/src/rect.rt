@@ -1,11 +1,11 @@
 // What RECT lets pass.
-use crate::directed::Area;
-use table::numbers::HIGH;
-use table::numbers::LOW;
 ghost use mathlib.Core.Logic.{_↔_};
 ghost use lib.Dec.{T};
 ghost use Rattle.seek.specs.Meaning.{RectRight};
 ghost use Rattle.seek.specs.Enumerate.{areaOf};
+use crate::directed::Area;
+use table::numbers::HIGH;
+use table::numbers::LOW;
 
 pub fn rect_right(area: Area) -> bool
     ensures { λ r. ⌜ T r ↔ RectRight (areaOf area) ⌝ }

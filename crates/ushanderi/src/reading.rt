@@ -2,8 +2,8 @@
 ghost use mathlib.Core.Path.{_≡_};
 ghost use mathlib.Core.Logic.{_↔_};
 ghost use lib.Dec.{T};
-ghost use Rattle.table.specs.Sound.{UsedIn};
 ghost use Rattle.ruler.specs.Ruler.{ruler};
+ghost use Rattle.table.specs.Sound.{UsedIn};
 ghost use Rattle.seek.specs.Meaning.{RectRight};
 ghost use Rattle.seek.specs.Enumerate.{areaOf};
 ghost use Rattle.ushanderi.specs.Promises.{Fit, FindSays, NeighboursSays, SearchSays, EnumerateSays};
@@ -18,6 +18,8 @@ use crate::answer::SHORT;
 use crate::answer::SIDE;
 use crate::answer::SIZE;
 use crate::answer::UNSOUND;
+use crate::answer::answered;
+use crate::answer::done;
 use crate::entry::Entry;
 use crate::entry::admit;
 use crate::entry::entry_answer;
@@ -63,10 +65,7 @@ pub(crate) fn found_answer(f: Found) -> Answer
     ensures { λ r. ⌜ r ≡ foundAnswer f ⌝ }
 {
     match f {
-        Found::At(i) => Answer {
-            number: DONE,
-            value: ruler::count(i as u64),
-        },
+        Found::At(i) => done(i as u64),
         Found::Size => Answer {
             number: SIZE,
             value: 0,
@@ -103,16 +102,10 @@ fn list_side(t: &[i32], i: usize, side: usize, out: &mut [i32]) -> Answer
 {
     let n = seek::count_side(t, i, side);
     if out.len() < n {
-        return Answer {
-            number: SHORT,
-            value: ruler::count(n as u64),
-        };
+        return answered(SHORT, n as u64);
     }
     seek::list_side(t, i, side, out);
-    Answer {
-        number: DONE,
-        value: ruler::count(n as u64),
-    }
+    done(n as u64)
 }
 
 pub fn neighbours(t: &[i32], x: i32, y: i32, side: i32, out: &mut [i32]) -> Answer
@@ -158,10 +151,7 @@ fn search_in(t: &[i32], area: Area) -> Answer
             number: DONE,
             value: NOTHING,
         },
-        Seen::Solid(i, _, _) => Answer {
-            number: DONE,
-            value: ruler::count(i as u64),
-        },
+        Seen::Solid(i, _, _) => done(i as u64),
     }
 }
 
@@ -192,16 +182,10 @@ fn enumerate_in(t: &[i32], area: Area, out: &mut [i32]) -> Answer
     let from = seek::first_used(t);
     let needed = seek::count_area(t, from, area);
     if out.len() < needed {
-        return Answer {
-            number: SHORT,
-            value: ruler::count(needed as u64),
-        };
+        return answered(SHORT, needed as u64);
     }
     let written = seek::list_area(t, out, from, area);
-    Answer {
-        number: DONE,
-        value: ruler::count(written as u64),
-    }
+    done(written as u64)
 }
 
 pub fn enumerate(t: &[i32], left: i32, bottom: i32, right: i32, top: i32, out: &mut [i32]) -> Answer

@@ -2,18 +2,16 @@
 use mathlib.Core.Path.{_≡_, sym, ap, _∙_, subst}
 use mathlib.Core.Logic.{_≢_, _↔_}
 use mathlib.Core.List.{List}
-use Prim.Native.Nat.{ℕ, _-_}
+use Prim.Native.Nat.{ℕ}
 use native.Mathlib.Omega.{arith}
 use lib.IntN.{ℤ, pos}
-use Rattle.geometry.specs.Picture
-use Rattle.geometry.specs.Picture.{ZERO, InPlane}
-use Rattle.table.specs.Words
-use Rattle.table.specs.Words.{KIND, num, tileOf}
+use Rattle.geometry.specs.Picture.{InPlane}
+use Rattle.table.specs.Words.{tileOf}
 use Rattle.seek.specs.Meaning.{SolidIn}
 use Rattle.seek.specs.Find.{Finds}
 use Rattle.ushanderi.specs.Answers.{DONE, POINT, SPACE, ROOM, accepted, refused}
 use Rattle.ushanderi.specs.declared.answer.Answer.{Answer}
-use Rattle.ushanderi.specs.Edits.{Removes, NoRoom}
+use Rattle.ushanderi.specs.Edits.{Removes, labelIn, SpaceIn, NoRoom}
 use Rattle.ushanderi.specs.Promises.{Unfit, Fit, DeleteRefuses, DeleteDone, DeleteSays}
 use Rattle.claims.specs.AgreeChecks.{Then, stops, goes, same, join, NotFit, not-fit, unfit-agrees, fit-finds-one, finds-inside, number-is, not-done, unfit-not-done}
 use Rattle.claims.specs.AgreePicture.{SamePicture}
@@ -26,13 +24,13 @@ use Rattle.claims.specs.AgreeCreate.{edited-fit}
 record AtSpace (t : List ℤ) (x y : ℕ) : Type 0 where
   at : ℕ
   finds : Finds t x y at
-  space : num t at KIND ≡ Picture.SPACE
+  space : SpaceIn t at
 
 -- an accepted delete and its answer
 pub record Deleted (t : List ℤ) (x y : ℕ) (t′ : List ℤ) (a : Answer) : Type 0 where
   pub at : ℕ
   pub done : DeleteDone t x y t′ at
-  pub is : a ≡ accepted (num t at Words.LABEL - ZERO)
+  pub is : a ≡ accepted (labelIn t at)
 
 abbrev Checked : List ℤ → ℕ → ℕ → List ℤ → Answer → Type 0
 Checked t x y t′ a =
@@ -41,7 +39,7 @@ Checked t x y t′ a =
 
 not-space : (t : List ℤ) (x y i : ℕ) → Fit t → Finds t x y i → SolidIn t i → AtSpace t x y → ⊥
 not-space t x y i f h s p =
-    let e : num t i KIND ≡ Picture.SPACE = subst (λ j. num t j KIND ≡ Picture.SPACE) (fit-finds-one t f x y (p .at) i (p .finds) h) (p .space) in
+    let e : SpaceIn t i = subst (λ j. SpaceIn t j) (fit-finds-one t f x y (p .at) i (p .finds) h) (p .space) in
     omega (arith, s .kind)
 
 delete-order : (t : List ℤ) (x y : ℕ) (t′ : List ℤ) (a : Answer) → DeleteSays t x y t′ a
@@ -117,7 +115,7 @@ module _ (t : List ℤ) (x y : ℕ) (u v : List ℤ) (a b : Answer) where
       let e : q .at ≡ p .at = fit-finds-one t f x y (q .at) (p .at) (q .done .allows .finds) (p .done .allows .finds) in
       let s = removes-same t u v (p .at) (p .done .removes) (subst (Removes t v) e (q .done .removes)) in
       record {
-        answer = p .is ∙ ap (λ i. accepted (num t i Words.LABEL - ZERO)) (sym e) ∙ sym (q .is);
+        answer = p .is ∙ ap (λ i. accepted (labelIn t i)) (sym e) ∙ sym (q .is);
         refused = λ h. absurd (h (number-is (p .is)));
         done = λ h.
             record {

@@ -11,7 +11,7 @@ use Rattle.table.specs.Sound.{solidsIn}
 use Rattle.table.specs.View.{Places, Slice, IsPart}
 use Rattle.seek.specs.Meaning.{Area, RectRight, FreeArea, First, Directed}
 use Rattle.seek.specs.Find.{Finds}
-use Rattle.seek.specs.Neighbours.{sideOf, Neighbours}
+use Rattle.seek.specs.Neighbours.{IsSide, sideOf, Neighbours}
 use Rattle.seek.specs.Sides.{neighbours-one}
 use Rattle.seek.specs.Search.{first-one, free-no-first}
 use Rattle.seek.specs.Order.{directed-one}
@@ -19,7 +19,7 @@ use Rattle.layout.specs.Order.{Saves}
 use Rattle.layout.specs.OneOrder.{order-length, saves-agree}
 use Rattle.ushanderi.specs.Answers.{POINT, RECT, SIDE, SHORT, answered, accepted, refused, nothing}
 use Rattle.ushanderi.specs.declared.answer.Answer.{Answer}
-use Rattle.ushanderi.specs.Promises.{Unfit, Fit, FreshSays, CheckSays, ViewSays, FindSays, listed, IsSide, NeighboursSays, SearchSays, EnumerateSays, SaveSays}
+use Rattle.ushanderi.specs.Promises.{Unfit, Fit, FreshSays, CheckSays, ViewSays, FindSays, listed, NeighboursSays, SearchSays, EnumerateSays, SaveSays}
 use Rattle.claims.specs.AgreeChecks.{Then, stops, goes, same, join, NotFit, not-fit, unfit-agrees, fit-forms, fit-finds-one, finds-inside}
 
 -- ---- fresh, check, view

@@ -1,13 +1,11 @@
 -- What an allowed answer has to be on a fit table of which the facts are known. Assumes nothing.
 use mathlib.Core.Path.{_≡_, refl, ap, _∙_, subst}
 use mathlib.Core.List.{List}
-use Prim.Native.Nat.{ℕ, _-_, _*_, _≤_, _<_}
+use Prim.Native.Nat.{ℕ, _*_, _≤_, _<_}
 use native.Mathlib.Omega.{arith}
 use lib.IntN.{ℤ, pos}
 use lib.ListN.{length}
-use Rattle.geometry.specs.Picture
 use Rattle.geometry.specs.Picture.{ZERO, InPlane}
-use Rattle.table.specs.Words
 use Rattle.table.specs.Words.{KIND, recordsOf, num}
 use Rattle.table.specs.Sound.{capacity, solidsIn}
 use Rattle.seek.specs.Meaning.{SolidIn, Area, RectRight, FreeArea, First, Directed}
@@ -18,6 +16,7 @@ use Rattle.layout.specs.Order.{Saves}
 use Rattle.layout.specs.OneOrder.{order-length, saves-bytes}
 use Rattle.ushanderi.specs.Answers.{OCCUPIED, FULL, POINT, SPACE, answered, accepted, refused, nothing}
 use Rattle.ushanderi.specs.declared.answer.Answer.{Answer}
+use Rattle.ushanderi.specs.Edits.{labelIn, SpaceIn}
 use Rattle.ushanderi.specs.Promises.{Fit, FindSays, listed, NeighboursSays, SearchSays, EnumerateSays, CreateRefuses, CreateAllows, CreateSays, DeleteRefuses, DeleteDone, DeleteSays, SaveSays}
 use Rattle.claims.specs.AgreeChecks.{not-fit, fit-forms, fit-finds-one, finds-inside}
 use Rattle.claims.specs.AgreeCreate.{Created}
@@ -90,19 +89,19 @@ module _ (t : List ℤ) (f : Fit t) where
   -- ---- delete
 
   module _ (x y i : ℕ) (h : Finds t x y i) (t′ : List ℤ) (a : Answer) where
-    one-kind : (i j : ℕ) → i ≡ j → SolidIn t i → num t j KIND ≡ Picture.SPACE → ⊥
+    one-kind : (i j : ℕ) → i ≡ j → SolidIn t i → SpaceIn t j → ⊥
     one-kind i j e s k = omega (arith, s .kind, ap (λ j. num t j KIND) e)
 
-    pub deletes : SolidIn t i → DeleteSays t x y t′ a → (a ≡ accepted (num t i Words.LABEL - ZERO)) × DeleteDone t x y t′ i
+    pub deletes : SolidIn t i → DeleteSays t x y t′ a → (a ≡ accepted (labelIn t i)) × DeleteDone t x y t′ i
     deletes s (DeleteSays.refuses (DeleteRefuses.unfit u) e) = absurd (not-fit t a u f)
     deletes s (DeleteSays.refuses (DeleteRefuses.point g n e) q) = absurd (n (finds-inside t f x y i h))
     deletes s (DeleteSays.refuses (DeleteRefuses.space g j k c e) q) = absurd (one-kind i j (fit-finds-one t f x y i j h k) s c)
     deletes s (DeleteSays.refuses (DeleteRefuses.room g j k c n e) q) = absurd (never-room t f n)
     deletes s (DeleteSays.done j d e) =
         let q = fit-finds-one t f x y j i (d .allows .finds) h in
-        (e ∙ ap (λ j. accepted (num t j Words.LABEL - ZERO)) q, subst (DeleteDone t x y t′) q d)
+        (e ∙ ap (λ j. accepted (labelIn t j)) q, subst (DeleteDone t x y t′) q d)
 
-    pub is-space : num t i KIND ≡ Picture.SPACE → DeleteSays t x y t′ a → (a ≡ refused SPACE) × (t′ ≡ t)
+    pub is-space : SpaceIn t i → DeleteSays t x y t′ a → (a ≡ refused SPACE) × (t′ ≡ t)
     is-space s (DeleteSays.refuses (DeleteRefuses.unfit u) e) = absurd (not-fit t a u f)
     is-space s (DeleteSays.refuses (DeleteRefuses.point g n e) q) = absurd (n (finds-inside t f x y i h))
     is-space s (DeleteSays.refuses (DeleteRefuses.space g j k c e) q) = (e, q)

@@ -1,7 +1,7 @@
 -- Saved layouts, as 01's page of that name tells them: what a reader must believe about bytes. Words are numbers on the ruler. Assumes nothing.
 use mathlib.Core.Path.{_≡_}
 use mathlib.Core.List.{List, [], _∷_, _++_}
-use Prim.Native.Nat.{ℕ, zero, suc, _+_, _*_, _/_, _%_, _<_, _^_}
+use Prim.Native.Nat.{ℕ, _+_, _*_, _/_, _%_, _<_, _^_}
 use lib.ListN.{length, getD}
 use Rattle.geometry.specs.Picture.{ZERO}
 use Rattle.layout.specs.declared.bytes.Saved.{Saved}
@@ -41,14 +41,6 @@ savedAt bs n =
       top = wordAt bs (20 * n + 12);
       label = wordAt bs (20 * n + 16);
     }
-
-unfoldable pub tabulate : ℕ → (ℕ → Saved) → List Saved
-tabulate zero f = []
-tabulate (suc n) f = f zero ∷ tabulate n (λ k. f (suc k))
-
--- the records of a file of whole records
-unfoldable pub recordsIn : List ℕ → List Saved
-recordsIn bs = tabulate (length bs / 20) (savedAt bs)
 
 -- every number is a word's
 pub record SavedFits (s : Saved) : Type 0 where

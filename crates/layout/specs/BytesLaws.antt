@@ -3,12 +3,12 @@ use mathlib.Core.Path.{_≡_, refl, ap, _∙_}
 use mathlib.Core.List.{List, [], _∷_, _++_}
 use Prim.Native.Nat.{ℕ, zero, suc, _+_, _-_, _*_, _/_, _%_, _≤_, _<_, _^_}
 use native.Mathlib.Omega.{arith}
-use native.Mathlib.Nat.{not-suc-le-zero, le-of-suc-le-suc}
+use native.Mathlib.Nat.{not-suc-le-zero}
 use lib.ListN.{length, getD, length-append}
-use lib.Seq.{getD-append-add, ext-getD}
+use lib.Seq.{getD-append-add}
 use Rattle.layout.specs.declared.bytes.Saved.{Saved}
 use Rattle.layout.specs.Patch.{patch, patch-then}
-use Rattle.layout.specs.Bytes.{complement, bytesOf, recordBytes, fileBytes, wordAt, savedAt, tabulate, recordsIn, SavedFits, AllFit}
+use Rattle.layout.specs.Bytes.{complement, bytesOf, recordBytes, fileBytes, wordAt, savedAt, SavedFits, AllFit}
 
 -- the two directions of two's complement
 pub complement-twice : (w : ℕ) → w < 2 ^ 32 → complement (complement w) ≡ w
@@ -115,33 +115,3 @@ saved-file [] n d f h = absurd (not-suc-le-zero h)
 saved-file (s ∷ ss) zero d f h = saved-first s (fileBytes ss) (f 0 d h)
 saved-file (s ∷ ss) (suc n) d f h =
     saved-next s (fileBytes ss) n ∙ saved-file ss n d (λ k e l. f (suc k) e (omega arith)) (omega arith)
-
--- ---- the records of a file
-
-pub recordsIn-length : (bs : List ℕ) → length (recordsIn bs) ≡ length bs / 20
-unfolding recordsIn tabulate
-recordsIn-length bs = tabulate-length (length bs / 20) (savedAt bs)
-  where
-    tabulate-length : (n : ℕ) (g : ℕ → Saved) → length (tabulate n g) ≡ n
-    tabulate-length zero g = refl
-    tabulate-length (suc n) g = ap suc (tabulate-length n (λ k. g (suc k)))
-
-pub recordsIn-at : (bs : List ℕ) (k : ℕ) (d : Saved) → k < length bs / 20 → getD (recordsIn bs) k d ≡ savedAt bs k
-unfolding recordsIn tabulate
-recordsIn-at bs k d h = tabulate-at (length bs / 20) k (savedAt bs) h
-  where
-    tabulate-at : (n k : ℕ) (g : ℕ → Saved) → k < n → getD (tabulate n g) k d ≡ g k
-    tabulate-at zero k g h = absurd (not-suc-le-zero h)
-    tabulate-at (suc n) zero g h = refl
-    tabulate-at (suc n) (suc k) g h = tabulate-at n k (λ j. g (suc j)) (le-of-suc-le-suc h)
-
--- a saved layout read back is what was saved
-pub recordsIn-file : (ss : List Saved) → AllFit ss → recordsIn (fileBytes ss) ≡ ss
-recordsIn-file ss f =
-    let n : length (fileBytes ss) / 20 ≡ length ss = omega (arith, file-length ss) in
-    ext-getD none (recordsIn (fileBytes ss)) ss (recordsIn-length (fileBytes ss) ∙ n) (λ i h.
-    let l = recordsIn-length (fileBytes ss) in
-    recordsIn-at (fileBytes ss) i none (omega arith) ∙ saved-file ss i none f (omega arith))
-  where
-    none : Saved
-    none = record { left = 0; bottom = 0; right = 0; top = 0; label = 0 }

@@ -1,19 +1,17 @@
--- What save wrote, read back, is what was saved. Assumes nothing.
-use mathlib.Core.Path.{_≡_, refl, sym, ap, _∙_, subst}
+-- What is saved of a solid fits a record of a file. Assumes nothing.
+use mathlib.Core.Path.{_≡_, refl, sym, subst}
 use mathlib.Core.List.{List, [], _∷_, map}
-use Prim.Native.Nat.{ℕ, zero, suc, _*_, _<_, _^_}
+use Prim.Native.Nat.{ℕ, zero, suc, _<_, _^_}
 use native.Mathlib.Nat.{not-suc-le-zero, le-of-suc-le-suc}
 use native.Mathlib.Omega.{arith}
 use lib.IntN.{ℤ}
-use lib.ListN.{length, getD, take, drop, length-map}
-use lib.Seq.{take-at}
+use lib.ListN.{length, getD, length-map}
 use Rattle.table.specs.Words.{LABEL, num}
 use Rattle.table.specs.Forms.{Forms}
 use Rattle.seek.specs.Meaning.{SolidIn, Lists}
 use Rattle.layout.specs.declared.bytes.Saved.{Saved}
-use Rattle.layout.specs.Bytes.{fileBytes, recordsIn, SavedFits, AllFit}
-use Rattle.layout.specs.BytesLaws.{file-length, recordsIn-file}
-use Rattle.layout.specs.Order.{Comes, savedOf, Saves}
+use Rattle.layout.specs.Bytes.{SavedFits, AllFit}
+use Rattle.layout.specs.Order.{Comes, savedOf}
 use Rattle.layout.specs.Keys.{solid-formed}
 
 -- every label is a word's
@@ -35,10 +33,3 @@ module _ (t : List ℤ) (f : Forms t) (a : LabelsFit t) where
       at n d [] h = absurd (not-suc-le-zero h)
       at zero d (k ∷ ks) h = refl
       at (suc n) d (k ∷ ks) h = at n d ks (le-of-suc-le-suc h)
-
-  pub saved-back : (out out′ : List ℕ) (r : ℕ) (s : Saves t out out′ r) → recordsIn (take r out′) ≡ map (savedOf t) (s .solids)
-  saved-back out out′ r s =
-      let ss : List Saved = map (savedOf t) (s .solids) in
-      let l : length (fileBytes ss) ≡ r = file-length ss ∙ ap (λ n. 20 * n) (length-map (s .solids) (savedOf t)) ∙ sym (s .number) in
-      ap (λ o. recordsIn (take r o)) (s .writes) ∙ ap recordsIn (take-at (fileBytes ss) (drop r out) r l)
-      ∙ recordsIn-file ss (solids-fit (s .solids) (s .lists))

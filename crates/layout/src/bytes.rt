@@ -1,11 +1,11 @@
 // Words and saved records as bytes: 32-bit two's complement, low byte first.
-use table::numbers::WORDS;
-use table::numbers::ZERO;
 ghost use mathlib.Core.Path.{_≡_};
 ghost use Prim.Native.Nat.{_+_, _*_, _%_, _≤_, _<_, _^_};
 ghost use lib.ListN.{length};
 ghost use Rattle.layout.specs.Bytes.{bytesOf, recordBytes, WordAt, SavedIs, SavedFits};
 ghost use Rattle.layout.specs.Patch.{patch};
+use table::numbers::WORDS;
+use table::numbers::ZERO;
 
 // How many numbers a byte has.
 const BYTE: u64 = 256;

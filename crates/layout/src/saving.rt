@@ -1,16 +1,4 @@
 // Saving: the solids' keys, sorted, and the records that they name written in that order.
-use crate::bytes::Saved;
-use crate::bytes::put_saved;
-use sorting::sort;
-use table::numbers::BOTTOM;
-use table::numbers::HIGH;
-use table::numbers::KIND;
-use table::numbers::LABEL;
-use table::numbers::LEFT;
-use table::numbers::LOW;
-use table::numbers::RIGHT;
-use table::numbers::SOLID;
-use table::numbers::TOP;
 ghost use mathlib.Core.Path.{_≡_};
 ghost use mathlib.Core.List.{_++_};
 ghost use Prim.Native.Nat.{ℕ, _*_, _≤_, _<_};
@@ -24,6 +12,18 @@ ghost use Rattle.layout.specs.Order.{Saves};
 ghost use Rattle.sorting.specs.Keys.{recordOf};
 ghost use Rattle.layout.specs.Keys.{key, CollectsKeys};
 ghost use Rattle.layout.specs.Saving.{SavedFrom, savedBy};
+use crate::bytes::Saved;
+use crate::bytes::put_saved;
+use sorting::sort;
+use table::numbers::BOTTOM;
+use table::numbers::HIGH;
+use table::numbers::KIND;
+use table::numbers::LABEL;
+use table::numbers::LEFT;
+use table::numbers::LOW;
+use table::numbers::RIGHT;
+use table::numbers::SOLID;
+use table::numbers::TOP;
 
 // The width of the plane, and a number above all record numbers.
 const WIDE: u64 = 33554432;

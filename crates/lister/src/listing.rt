@@ -1,8 +1,4 @@
 // The lister's text: the lines of the plane that a saved layout loads as, or the line of a refused load.
-use crate::text::put_line;
-use crate::text::put_refused;
-use table::numbers::ZERO;
-use ushanderi::answer::DONE;
 ghost use mathlib.Core.Path.{_≡_};
 ghost use Prim.Native.Nat.{_+_, _*_, _≤_, _<_};
 ghost use lib.IntN.{pos};
@@ -15,6 +11,10 @@ ghost use Rattle.lister.specs.Text.{lineOf};
 ghost use Rattle.ushanderi.specs.Promises.{Fit};
 ghost use Rattle.lister.specs.Sizes.{LINE, Sized};
 ghost use Rattle.lister.specs.Listing.{entry, Records, linesAt, ListsPlane, PutsPlane, Lists};
+use crate::text::put_line;
+use crate::text::put_refused;
+use table::numbers::ZERO;
+use ushanderi::answer::DONE;
 
 // The plane's ends.
 const LEAST: i32 = -16777216;

@@ -1,12 +1,12 @@
 // The lister's lines: numbers in decimal and the words between them, written into lent bytes.
-use table::numbers::SOLID;
-use table::numbers::ZERO;
 ghost use mathlib.Core.Path.{_≡_};
 ghost use mathlib.Core.List.{[], _∷_, _++_};
 ghost use Prim.Native.Nat.{_+_, _≤_, _<_, _^_};
 ghost use lib.ListN.{length};
 ghost use Rattle.layout.specs.Patch.{Puts};
 ghost use Rattle.lister.specs.Text.{decimal, glyph, signedText, spaced, kindText, lineOf, refusedLine};
+use table::numbers::SOLID;
+use table::numbers::ZERO;
 
 fn put_byte(out: &mut [u8], at: usize, b: u8) -> usize
     requires { ⌜ at < length (now out) ⌝ }

@@ -1,4 +1,6 @@
 // Create, and delete what was created, again and again.
+ghost use Rattle.repeated.specs.Says.{EditSays};
+ghost use Rattle.repeated.specs.Edit.{CanEdit, MayEdit, Edited};
 use crate::answer::Answer;
 use crate::answer::DONE;
 use crate::answer::FULL;
@@ -7,15 +9,13 @@ use crate::answer::OCCUPIED;
 use crate::answer::RECT;
 use crate::entry::Entry;
 use crate::entry::enter;
-use crate::entry::rect_right;
 use crate::find::hint;
 use crate::search::search_from;
 use edit::create::create;
 use edit::delete::delete;
+use seek::Area;
 use table::numbers::WORDS;
 use table::numbers::ZERO;
-ghost use Rattle.repeated.specs.Says.{EditSays};
-ghost use Rattle.repeated.specs.Edit.{CanEdit, MayEdit, Edited};
 
 // Why the solid cannot be created, or DONE.
 fn may_edit(t: &[i32], left: u64, bottom: u64, right: u64, top: u64, label: u64) -> u64
@@ -25,7 +25,13 @@ fn may_edit(t: &[i32], left: u64, bottom: u64, right: u64, top: u64, label: u64)
     if number != DONE {
         return number;
     }
-    if rect_right(left, bottom, right, top) {
+    let area = Area {
+        left,
+        bottom,
+        right,
+        top,
+    };
+    if seek::rect_right(area) {
         if label <= ZERO {
             return LABEL;
         }

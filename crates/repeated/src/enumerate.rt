@@ -1,17 +1,16 @@
 // The directed order, again and again: the tiles are counted, and where there is room they are listed.
+ghost use Rattle.seek.specs.Meaning.{RectRight};
+ghost use Rattle.seek.specs.Enumerate.{areaOf};
+ghost use Rattle.repeated.specs.Entry.{Fit};
+ghost use Rattle.repeated.specs.Says.{EnumerateSays, AreaListed};
 use crate::answer::Answer;
 use crate::answer::DONE;
 use crate::answer::RECT;
 use crate::answer::SHORT;
 use crate::entry::Entry;
 use crate::entry::enter;
-use crate::entry::rect_right;
 use crate::find::hint;
 use seek::Area;
-ghost use Rattle.seek.specs.Meaning.{RectRight};
-ghost use Rattle.seek.specs.Enumerate.{areaOf};
-ghost use Rattle.repeated.specs.Entry.{Fit};
-ghost use Rattle.repeated.specs.Says.{EnumerateSays, AreaListed};
 
 fn area_from(t: &[i32], hint: u64, area: Area, list: &mut [i32]) -> usize
     requires { ⌜ Fit (now t) ⌝ }
@@ -74,13 +73,13 @@ pub extern "C" fn rep_enumerate(
     if number != DONE {
         return Answer { number, value: 0 };
     }
-    if rect_right(left, bottom, right, top) {
-        let area = Area {
-            left,
-            bottom,
-            right,
-            top,
-        };
+    let area = Area {
+        left,
+        bottom,
+        right,
+        top,
+    };
+    if seek::rect_right(area) {
         return area_sound(t, area, list, times);
     }
     Answer {

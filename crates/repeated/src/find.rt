@@ -1,14 +1,14 @@
 // Find, again and again.
+ghost use Rattle.geometry.specs.Picture.{InPlane};
+ghost use Rattle.seek.specs.Find.{Finds};
+ghost use Rattle.repeated.specs.Entry.{Fit};
+ghost use Rattle.repeated.specs.Says.{FindSays};
 use crate::answer::Answer;
 use crate::answer::DONE;
 use crate::answer::POINT;
 use crate::entry::Entry;
 use crate::entry::enter;
 use table::numbers::ZERO;
-ghost use Rattle.geometry.specs.Picture.{InPlane};
-ghost use Rattle.seek.specs.Find.{Finds};
-ghost use Rattle.repeated.specs.Entry.{Fit};
-ghost use Rattle.repeated.specs.Says.{FindSays};
 
 // The hint of run n: the record `from`, and at each run the next.
 pub(crate) fn hint(from: u32, n: u32) -> u64 {

@@ -1,4 +1,7 @@
 // A tile's neighbours, again and again: the tile is found, they are counted, and where there is room they are listed.
+ghost use Rattle.geometry.specs.Picture.{InPlane};
+ghost use Rattle.repeated.specs.Entry.{Fit};
+ghost use Rattle.repeated.specs.Says.{NeighboursSays, SideListed};
 use crate::answer::Answer;
 use crate::answer::DONE;
 use crate::answer::POINT;
@@ -8,9 +11,6 @@ use crate::entry::Entry;
 use crate::entry::enter;
 use crate::find::find_from;
 use crate::find::hint;
-ghost use Rattle.geometry.specs.Picture.{InPlane};
-ghost use Rattle.repeated.specs.Entry.{Fit};
-ghost use Rattle.repeated.specs.Says.{NeighboursSays, SideListed};
 
 fn list_from(t: &[i32], hint: u64, x: u64, y: u64, side: usize, list: &mut [i32]) -> usize
     requires { ⌜ Fit (now t) ⌝ }

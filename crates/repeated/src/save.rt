@@ -1,15 +1,15 @@
 // Save, again and again.
-use crate::answer::Answer;
-use crate::answer::DONE;
-use crate::answer::SHORT;
-use crate::entry::Entry;
-use crate::entry::enter;
 ghost use Prim.Native.Nat.{_*_, _≤_};
 ghost use lib.ListN.{length};
 ghost use Rattle.table.specs.Sound.{solidsIn};
 ghost use Rattle.layout.specs.Order.{Saves};
 ghost use Rattle.repeated.specs.Entry.{Fit};
 ghost use Rattle.repeated.specs.Says.{SaveSays};
+use crate::answer::Answer;
+use crate::answer::DONE;
+use crate::answer::SHORT;
+use crate::entry::Entry;
+use crate::entry::enter;
 
 fn save_often(t: &[i32], bytes: &mut [u8], times: u32) -> usize
     requires { ⌜ Fit (now t) ⌝ }

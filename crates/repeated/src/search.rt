@@ -1,15 +1,15 @@
 // Area search, again and again.
+ghost use Rattle.seek.specs.Meaning.{RectRight};
+ghost use Rattle.repeated.specs.Entry.{Fit};
+ghost use Rattle.repeated.specs.Says.{SearchSays, Sees};
 use crate::answer::Answer;
 use crate::answer::DONE;
 use crate::answer::RECT;
 use crate::entry::Entry;
 use crate::entry::enter;
-use crate::entry::rect_right;
 use crate::find::hint;
+use seek::Area;
 use seek::Seen;
-ghost use Rattle.seek.specs.Meaning.{RectRight};
-ghost use Rattle.repeated.specs.Entry.{Fit};
-ghost use Rattle.repeated.specs.Says.{SearchSays, Sees};
 
 // One search, from the record that the hint names: the record of the first solid, or a number past the records.
 pub(crate) fn search_from(
@@ -69,7 +69,13 @@ pub extern "C" fn rep_search(
     if number != DONE {
         return Answer { number, value: 0 };
     }
-    if rect_right(left, bottom, right, top) {
+    let area = Area {
+        left,
+        bottom,
+        right,
+        top,
+    };
+    if seek::rect_right(area) {
         let k = search_often(t, left, bottom, right, top, from, times);
         return Answer {
             number: DONE,

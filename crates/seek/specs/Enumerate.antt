@@ -9,7 +9,7 @@ use Rattle.table.specs.Forms.{Forms}
 use Rattle.seek.specs.Meaning.{Area, Tree, Directed}
 use Rattle.seek.specs.Once.{directed-short}
 use Rattle.seek.specs.Order.{directed-one}
-use Rattle.seek.specs.Writing.{Writes, CountOf, count-one, writes-one}
+use Rattle.seek.specs.Writing.{Writes, CountOf, count-one}
 use Rattle.seek.specs.declared.directed.Area as Given
 
 -- the area with these edges
@@ -35,9 +35,6 @@ CountsArea t A = CountOf (Directed t A)
 module _ (t : List ℤ) (f : Forms t) (A : Area) where
   pub counts-area-one : (m n : ℕ) → CountsArea t A m → CountsArea t A n → m ≡ n
   counts-area-one = count-one (Directed t A) (directed-one t f A)
-
-  pub writes-area-one : (old new new′ : List ℤ) (n n′ : ℕ) → WritesArea t A old new n → WritesArea t A old new′ n′ → (n ≡ n′) × (new ≡ new′)
-  writes-area-one = writes-one (Directed t A) (directed-one t f A)
 
   pub counts-area-short : (n : ℕ) → CountsArea t A n → n ≤ recordsOf t
   counts-area-short n c = omega (arith, c .count, directed-short t f A (c .list) (c .is))

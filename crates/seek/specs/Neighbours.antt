@@ -2,12 +2,17 @@
 use mathlib.Core.Path.{_≡_}
 use mathlib.Core.List.{List}
 use Prim.Native.Nat.{ℕ, zero, suc, _≤_, _<_}
-use lib.IntN.{ℤ}
+use lib.IntN.{ℤ, pos}
 use Rattle.geometry.specs.Picture.{Tile}
 use Rattle.geometry.specs.Turns.{Side, top, right, bottom, left}
 use Rattle.table.specs.Words.{tileOf}
 use Rattle.table.specs.Sound.{UsedIn}
 use Rattle.seek.specs.Meaning.{Lists}
+
+-- a side's number, 0 to 3
+pub record IsSide (side : ℤ) (s : ℕ) : Type 0 where
+  pub is : side ≡ pos s
+  pub below : s < 4
 
 -- the sides by 01's numbers: 0 right, 1 left, 2 top, 3 bottom
 unfoldable pub sideOf : ℕ → Side

@@ -14,7 +14,7 @@ use Rattle.table.specs.Forms.{Forms, is-used}
 use Rattle.seek.specs.Meaning.{Area, RectRight, Lists, Over, Meets, Root, Hangs, Tree, tree, Trees, none, more, Directed}
 use Rattle.seek.specs.Lists.{lists-one}
 use Rattle.seek.specs.Hanging.{formed, Under, self, below, roots-level, hangs-level}
-use Rattle.seek.specs.Once.{times, times-append, times-here, times-other, times-none, tree-induction, trees-induction, not-both, trees-hung}
+use Rattle.seek.specs.Once.{times, times-append, times-here, times-other, times-none, trees-induction, not-both, trees-hung}
 
 -- ---- a tree taken apart
 
@@ -61,9 +61,6 @@ module _ (t : List ℤ) (f : Forms t) (A : Area) where
 
   one-more : (k : ℕ) (ks of rest : List ℕ) → Tree t A k of → Trees t A ks rest → One k of → One-each ks rest → One-each (k ∷ ks) (of ++ rest)
   one-more k ks of rest x xs first others w′ y = let p = parts y in ap₂ _++_ (first (p .of) (p .first)) (others (p .rest) (p .others)) ∙ sym (p .is)
-
-  pub tree-one : (p : ℕ) (w w′ : List ℕ) → Tree t A p w → Tree t A p w′ → w ≡ w′
-  tree-one p w w′ x = tree-induction t A One One-each one-tree one-none one-more p w x w′
 
   trees-one : (ks w w′ : List ℕ) → Trees t A ks w → Trees t A ks w′ → w ≡ w′
   trees-one ks w w′ x = trees-induction t A One One-each one-tree one-none one-more ks w x w′

@@ -1,5 +1,5 @@
 -- What area search answers, row by row from the top, and that its answer is determined. Assumes nothing.
-use mathlib.Core.Path.{_≡_, refl, sym, subst, subst₂}
+use mathlib.Core.Path.{_≡_, sym, subst, subst₂}
 use mathlib.Core.List.{List}
 use mathlib.Core.Logic.{_≢_}
 use Prim.Native.Nat.{ℕ, _-_, _≤_, _<_}
@@ -158,14 +158,3 @@ first-one t f A x y i x′ y′ i′ p q =
 
 pub free-no-first : (t : List ℤ) (A : Area) (x y i : ℕ) → FreeArea t A → First t A x y i → ⊥
 free-no-first t A x y i h f = h x y (f .inside) i (f .solid) (f .has)
-
-pub searches-one : (t : List ℤ) → Forms t → (A : Area) (r s : Seen) → Searches t A r → Searches t A s → r ≡ s
-searches-one t f A r s (nothing h) (nothing k) = refl
-searches-one t f A r s (nothing h) (solid {i} {x} {y} q) = absurd (free-no-first t A x y i h q)
-searches-one t f A r s (solid {i} {x} {y} p) (nothing k) = absurd (free-no-first t A x y i k p)
-searches-one t f A r s (solid {i} {x} {y} p) (solid {i = i′} {x = x′} {y = y′} q) =
-    let e = first-one t f A x y i x′ y′ i′ p q in
-    let a : x ≡ x′ = e .column in
-    let b : y ≡ y′ = e .row in
-    let c : i ≡ i′ = e .number in
-    cc

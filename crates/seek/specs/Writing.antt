@@ -124,8 +124,3 @@ writes-whole Is old new n w h =
 module _ (Is : List ℕ → Type 0) (one : (v w : List ℕ) → Is v → Is w → v ≡ w) where
   pub count-one : (m n : ℕ) → CountOf Is m → CountOf Is n → m ≡ n
   count-one m n a b = a .count ∙ ap length (one (a .list) (b .list) (a .is) (b .is)) ∙ sym (b .count)
-
-  pub writes-one : (old new new′ : List ℤ) (n n′ : ℕ) → Writes Is old new n → Writes Is old new′ n′ → (n ≡ n′) × (new ≡ new′)
-  writes-one old new new′ n n′ a b =
-      let e = one (a .list) (b .list) (a .is) (b .is) in
-      (a .count ∙ ap length e ∙ sym (b .count), a .content ∙ ap (λ l. over (words l) old) e ∙ sym (b .content))

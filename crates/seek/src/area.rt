@@ -1,15 +1,15 @@
 // The first occupied cell of an area: row after row along its left edge, from the top down.
-use crate::cell::find;
-use table::numbers::BOTTOM;
-use table::numbers::KIND;
-use table::numbers::RIGHT;
-use table::numbers::SOLID;
 ghost use Prim.Native.Nat.{_<_, _≤_};
 ghost use Rattle.geometry.specs.Picture.{HIGH, InPlane};
 ghost use Rattle.table.specs.Sound.{SizeRight, UsedIn};
 ghost use Rattle.table.specs.Forms.{Forms};
 ghost use Rattle.seek.specs.Meaning.{RectRight};
 ghost use Rattle.seek.specs.Search.{Searches, InRow};
+use crate::cell::find;
+use table::numbers::BOTTOM;
+use table::numbers::KIND;
+use table::numbers::RIGHT;
+use table::numbers::SOLID;
 
 // Nothing, or a solid with its record and the area's first occupied cell.
 pub enum Seen {

@@ -1,4 +1,10 @@
 // The tile that holds a cell, from any tile: up or down to the cell's row, then left or right along it.
+ghost use Prim.Native.Nat.{_<_, _≤_};
+ghost use Rattle.geometry.specs.Picture.{LOW, HIGH, InPlane};
+ghost use Rattle.table.specs.Words.{LEFT, RIGHT, num};
+ghost use Rattle.table.specs.Sound.{SizeRight, UsedIn};
+ghost use Rattle.table.specs.Forms.{Forms};
+ghost use Rattle.seek.specs.Find.{IsIn, Row, Under, CrossedLeft, CrossedRight, From, Finds};
 use table::follow;
 use table::numbers::BL;
 use table::numbers::BOTTOM;
@@ -8,12 +14,6 @@ use table::numbers::RIGHT;
 use table::numbers::RT;
 use table::numbers::TOP;
 use table::numbers::TR;
-ghost use Prim.Native.Nat.{_<_, _≤_};
-ghost use Rattle.geometry.specs.Picture.{LOW, HIGH, InPlane};
-ghost use Rattle.table.specs.Words.{LEFT, RIGHT, num};
-ghost use Rattle.table.specs.Sound.{SizeRight, UsedIn};
-ghost use Rattle.table.specs.Forms.{Forms};
-ghost use Rattle.seek.specs.Find.{IsIn, Row, Under, CrossedLeft, CrossedRight, From, Finds};
 
 // Upwards, to a tile that ends over the row y.
 fn to_row_up(t: &[i32], from: usize, y: u64) -> usize

@@ -1,10 +1,4 @@
 // The directed order of the tiles of an area: each tile, then the tiles that hang under it, top to bottom, each with all that hangs under it.
-use crate::cell::find;
-use crate::side::Walk;
-use crate::side::along;
-use table::numbers::BOTTOM;
-use table::numbers::LOW;
-use table::numbers::RIGHT;
 ghost use mathlib.Core.Path.{_≡_};
 ghost use mathlib.Core.List.{_∷_, []};
 ghost use Prim.Native.Nat.{_<_, min};
@@ -17,6 +11,12 @@ ghost use Rattle.seek.specs.Walk.{Goes};
 ghost use Rattle.seek.specs.Writing.{over, words};
 ghost use Rattle.seek.specs.Subtree.{Floor, Follows};
 ghost use Rattle.seek.specs.Enumerate.{areaOf, edges, WritesTree, WritesArea, CountsArea};
+use crate::cell::find;
+use crate::side::Walk;
+use crate::side::along;
+use table::numbers::BOTTOM;
+use table::numbers::LOW;
+use table::numbers::RIGHT;
 
 pub struct Area {
     pub left: u64,

@@ -1,9 +1,9 @@
 // A tile to start a search from.
+ghost use Rattle.table.specs.Forms.{Forms};
+ghost use Rattle.seek.specs.Start.{FirstUsed, Starts};
 use table::numbers::FREE;
 use table::numbers::KIND;
 use table::numbers::ZERO;
-ghost use Rattle.table.specs.Forms.{Forms};
-ghost use Rattle.seek.specs.Start.{FirstUsed, Starts};
 
 pub fn first_used(t: &[i32]) -> usize
     requires { ⌜ Forms (now t) ⌝ }

@@ -4,6 +4,7 @@ mod cell;
 mod directed;
 mod first;
 mod neighbours;
+mod rect;
 mod side;
 
 pub use area::Seen;
@@ -16,5 +17,6 @@ pub use first::first_used;
 pub use first::start;
 pub use neighbours::count_side;
 pub use neighbours::list_side;
+pub use rect::rect_right;
 pub use side::Walk;
 pub use side::along;

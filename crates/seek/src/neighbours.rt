@@ -1,10 +1,10 @@
 // The neighbours of a tile on a side: how many there are, and the list of them.
-use crate::side::along;
 ghost use lib.ListN.{length};
 ghost use Rattle.table.specs.Sound.{SizeRight, UsedIn};
 ghost use Rattle.table.specs.Forms.{Forms};
 ghost use Rattle.seek.specs.Neighbours.{sideOf};
 ghost use Rattle.seek.specs.Listing.{Counts, Fits, Lists};
+use crate::side::along;
 
 pub fn count_side(t: &[i32], i: usize, side: usize) -> usize
     requires { ⌜ Forms (now t) ⌝ }

@@ -1,4 +1,12 @@
 // The walk along a side of a tile: it meets the tile's neighbours there, each once, in 01's order.
+ghost use mathlib.Core.Path.{_≡_};
+ghost use Prim.Native.Nat.{_+_, _*_, _<_};
+ghost use lib.ListN.{length};
+ghost use Rattle.table.specs.Words.{WIDTH, num};
+ghost use Rattle.table.specs.Sound.{SizeRight, UsedIn};
+ghost use Rattle.table.specs.Forms.{Forms};
+ghost use Rattle.seek.specs.Neighbours.{sideOf};
+ghost use Rattle.seek.specs.Walk.{wordsOf, seenAt, Begins, Goes, Steps};
 use table::follow;
 use table::numbers::BL;
 use table::numbers::BOTTOM;
@@ -10,14 +18,6 @@ use table::numbers::RIGHT;
 use table::numbers::RT;
 use table::numbers::TOP;
 use table::numbers::TR;
-ghost use mathlib.Core.Path.{_≡_};
-ghost use Prim.Native.Nat.{_+_, _*_, _<_};
-ghost use lib.ListN.{length};
-ghost use Rattle.table.specs.Words.{WIDTH, num};
-ghost use Rattle.table.specs.Sound.{SizeRight, UsedIn};
-ghost use Rattle.table.specs.Forms.{Forms};
-ghost use Rattle.seek.specs.Neighbours.{sideOf};
-ghost use Rattle.seek.specs.Walk.{wordsOf, seenAt, Begins, Goes, Steps};
 
 // The sum of the plane's two ends: a number and the same seen from the other side add up to it.
 const TURN: u64 = LOW + HIGH;

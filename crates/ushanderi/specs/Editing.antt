@@ -1,8 +1,8 @@
 -- The calls that change a plane: what a decision and an act of a create or a delete give, and how the edits of a sound table give the promises. Assumes nothing.
-use mathlib.Core.Path.{_≡_, refl, sym, ap, _∙_, subst, subst₂}
+use mathlib.Core.Path.{_≡_, sym, ap, _∙_, subst, subst₂}
 use mathlib.Core.Logic.{_≢_}
 use mathlib.Core.List.{List}
-use Prim.Native.Nat.{ℕ, _+_, _-_, _≤_, _<_, _^_}
+use Prim.Native.Nat.{ℕ, _+_, _≤_, _<_, _^_}
 use native.Mathlib.Omega.{arith}
 use lib.IntN.{ℤ}
 use lib.ListN.{length}
@@ -13,14 +13,13 @@ use Rattle.ruler.specs.Ruler.{ruler, ruler-bits}
 use Rattle.geometry.specs.Cases.{eq-cases, only}
 use Rattle.geometry.specs.Sums.{sum-set}
 use Rattle.geometry.specs.Count.{count}
-use Rattle.geometry.specs.Picture
-use Rattle.geometry.specs.Picture.{ZERO, SOLID}
+use Rattle.geometry.specs.Picture.{ZERO, SOLID, Tile}
 use Rattle.geometry.specs.Tiling.{Kinded, tile-ext}
 use Rattle.table.specs.Words.{KIND, recordsOf, num, tileOf}
 use Rattle.table.specs.Words
 use Rattle.table.specs.Sound.{UsedIn, capacity, solidAt, solidsIn}
 use Rattle.table.specs.Forms.{Forms, forms-sound}
-use Rattle.seek.specs.Meaning.{SolidIn, Area, RectRight, FreeArea, First}
+use Rattle.seek.specs.Meaning.{SolidIn, Area, FreeArea, First}
 use Rattle.seek.specs.Find.{Finds}
 use Rattle.seek.specs.Search.{Searches}
 use Rattle.seek.specs.declared.area.Seen.{Seen}
@@ -29,8 +28,8 @@ use Rattle.edit.specs.Tidy.{SameTile}
 use Rattle.edit.specs.Create.{CanLay, Creates, creates-new}
 use Rattle.edit.specs.Delete.{Deletes, CanShrink, shrink-room}
 use Rattle.ushanderi.specs.Answers.{SIZE, UNSOUND, RECT, LABEL, OCCUPIED, FULL, answered, accepted}
-use Rattle.ushanderi.specs.Edits.{drawn, Adds, Removes, Edited, NoRoom}
-use Rattle.ushanderi.specs.Promises.{Unfit, Fit, FindSays, CreateRefuses, CreateAllows, CreateDone, CreateSays, DeleteRefuses, DeleteAllows, DeleteDone, DeleteSays}
+use Rattle.ushanderi.specs.Edits.{drawn, Adds, Removes, Edited, labelIn, SpaceIn}
+use Rattle.ushanderi.specs.Promises.{Unfit, Fit, FindSays, CreateRefuses, CreateAllows, CreateDone, CreateSays, DeleteRefuses, DeleteAllows, DeleteSays}
 use Rattle.ushanderi.specs.Reading.{foundAnswer, fit-forms, low-record, NotFound, found-at}
 use Rattle.ushanderi.specs.declared.answer.Answer.{Answer}
 use Rattle.ushanderi.specs.declared.reading.Found.{Found}
@@ -144,7 +143,7 @@ pub laid-full : (t : List ℤ) → Fit t → capacity (recordsOf t) ≤ solidsIn
 laid-full t f h = omega (arith, fit-forms t f .few)
 
 -- one solid more
-pub adds-one : (t t′ : List ℤ) (k : ℕ) (v : Picture.Tile) → length t′ ≡ length t → Adds t t′ k v → solidsIn t′ ≡ solidsIn t + 1
+pub adds-one : (t t′ : List ℤ) (k : ℕ) (v : Tile) → length t′ ≡ length t → Adds t t′ k v → solidsIn t′ ≡ solidsIn t + 1
 unfolding count
 adds-one t t′ k v e a =
     let r : recordsOf t′ ≡ recordsOf t = omega arith in
@@ -167,7 +166,7 @@ adds-one t t′ k v e a =
 pub record Taken (t : List ℤ) (i : ℕ) (t′ : List ℤ) (label : ℕ) : Type 0 where
   pub edited : Edited t t′
   pub removes : Removes t t′ i
-  pub is : label ≡ num t i Words.LABEL - ZERO
+  pub is : label ≡ labelIn t i
   pub low : label < 2 ^ 31
 
 pub can-delete : (t : List ℤ) (i : ℕ) → Fit t → SolidIn t i → CanShrink t i
@@ -180,10 +179,10 @@ delete-allows t x y i f h k =
     record { fit = f; finds = h; solid = s; room = λ n. let (j, r) = shrink-room t i (can-delete t i f s) in n j (r .below) (r .kind) }
 
 -- a used record that is no solid is space
-pub is-space : (t : List ℤ) (i : ℕ) → Fit t → UsedIn t i → num t i KIND ≢ SOLID → num t i KIND ≡ Picture.SPACE
+pub is-space : (t : List ℤ) (i : ℕ) → Fit t → UsedIn t i → num t i KIND ≢ SOLID → SpaceIn t i
 is-space t i f u n = go (fit-forms t f .widest .kinded i u)
   where
-    go : Kinded (tileOf t i) → num t i KIND ≡ Picture.SPACE
+    go : Kinded (tileOf t i) → SpaceIn t i
     go (Kinded.space k l) = k
     go (Kinded.solid k l) = absurd (n k)
 
@@ -195,7 +194,7 @@ label-low t i f s = go (fit-forms t f .widest .kinded i (record { below = s .bel
     go (Kinded.space k l) = absurd (omega (arith, s .kind))
     go (Kinded.solid k l) = l
 
-pub taken : (t t′ : List ℤ) (i label : ℕ) → Fit t → Deletes t t′ i → label ≡ num t i Words.LABEL - ZERO → label < 2 ^ 31 → Taken t i t′ label
+pub taken : (t t′ : List ℤ) (i label : ℕ) → Fit t → Deletes t t′ i → label ≡ labelIn t i → label < 2 ^ 31 → Taken t i t′ label
 taken t t′ i label f d e w =
     record {
       edited = sound-after t t′ f (d .size) (d .forms);

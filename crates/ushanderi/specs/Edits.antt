@@ -2,11 +2,11 @@
 use mathlib.Core.Path.{_≡_}
 use mathlib.Core.Logic.{_≢_}
 use mathlib.Core.List.{List}
-use Prim.Native.Nat.{ℕ, _<_}
+use Prim.Native.Nat.{ℕ, _-_, _<_}
 use lib.IntN.{ℤ}
 use lib.ListN.{length}
-use Rattle.geometry.specs.Picture.{FREE, SOLID, Tile}
-use Rattle.table.specs.Words.{KIND, recordsOf, num, tileOf}
+use Rattle.geometry.specs.Picture.{ZERO, FREE, SPACE, SOLID, Tile}
+use Rattle.table.specs.Words.{KIND, LABEL, recordsOf, num, tileOf}
 use Rattle.table.specs.Sound.{Sound}
 use Rattle.seek.specs.Meaning.{SolidIn, Area}
 
@@ -31,6 +31,14 @@ pub record Removes (t t′ : List ℤ) (k : ℕ) : Type 0 where
 pub record Edited (t t′ : List ℤ) : Type 0 where
   pub sound : Sound t′
   pub size : length t′ ≡ length t
+
+-- the label of record i
+abbrev pub labelIn : List ℤ → ℕ → ℕ
+labelIn t i = num t i LABEL - ZERO
+
+-- record i is space
+abbrev pub SpaceIn : List ℤ → ℕ → Type 0
+SpaceIn t i = num t i KIND ≡ SPACE
 
 -- no record of the table is free
 abbrev pub NoRoom : List ℤ → Type 0

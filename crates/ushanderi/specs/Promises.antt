@@ -2,25 +2,23 @@
 use mathlib.Core.Path.{_≡_}
 use mathlib.Core.Logic.{_≢_}
 use mathlib.Core.List.{List, _++_, map}
-use Prim.Native.Nat.{ℕ, _+_, _-_, _*_, _/_, _%_, _≤_, _<_}
+use Prim.Native.Nat.{ℕ, _+_, _*_, _/_, _%_, _≤_, _<_}
 use lib.IntN.{ℤ, pos}
 use lib.ListN.{length, drop}
 use denote.Ref.{now}
-use Rattle.geometry.specs.Picture
 use Rattle.geometry.specs.Picture.{ZERO, InPlane}
-use Rattle.table.specs.Words.{KIND, recordsOf, num}
-use Rattle.table.specs.Words
+use Rattle.table.specs.Words.{recordsOf}
 use Rattle.table.specs.Sound.{SizeRight, Sound, capacity, solidsIn}
 use Rattle.table.specs.Fresh.{freshTable}
 use Rattle.table.specs.View.{Places, Slice, IsPart}
 use Rattle.seek.specs.Meaning.{SolidIn, Area, RectRight, FreeArea, First, Lists, Directed}
 use Rattle.seek.specs.Find.{Finds}
-use Rattle.seek.specs.Neighbours.{sideOf, Neighbours}
+use Rattle.seek.specs.Neighbours.{IsSide, sideOf, Neighbours}
 use Rattle.layout.specs.Bytes.{savedAt}
 use Rattle.layout.specs.Order.{Comes, Saves}
 use Rattle.ushanderi.specs.Answers.{SIZE, UNSOUND, POINT, RECT, LABEL, OCCUPIED, FULL, SPACE, SIDE, SHORT, FILE, ROOM, answered, accepted, refused, nothing}
 use Rattle.ushanderi.specs.declared.answer.Answer.{Answer}
-use Rattle.ushanderi.specs.Edits.{drawn, Adds, Removes, Edited, NoRoom}
+use Rattle.ushanderi.specs.Edits.{drawn, Adds, Removes, Edited, labelIn, SpaceIn, NoRoom}
 
 -- The checks 1 and 2, which every call but fresh, view and load runs first.
 pub data Unfit (t : List ℤ) (a : Answer) : Type 0 where
@@ -58,11 +56,6 @@ pub data FindSays (t : List ℤ) (x y : ℕ) (a : Answer) : Type 0 where
 abbrev pub listed : List ℕ → List ℤ → List ℤ
 listed ks out = map pos ks ++ drop (length ks) out
 
--- a side's number, 0 to 3
-pub record IsSide (side : ℤ) (s : ℕ) : Type 0 where
-  pub is : side ≡ pos s
-  pub below : s < 4
-
 -- Neighbours of the tile holding a cell: 1, 2, 3, 9, 10. Value: how many.
 pub data NeighboursSays (t : List ℤ) (x y : ℕ) (side : ℤ) (out out′ : List ℤ) (a : Answer) : Type 0 where
   unfit : Unfit t a → out′ ≡ out → NeighboursSays t x y side out out′ a
@@ -89,7 +82,7 @@ pub data EnumerateSays (t : List ℤ) (A : Area) (out out′ : List ℤ) (a : An
   done : Fit t → RectRight A → (ks : List ℕ) → Directed t A ks → length ks ≤ length out → a ≡ accepted (length ks) → out′ ≡ listed ks out
       → EnumerateSays t A out out′ a
 
--- Create: 1, 2, 4, 5, 6, 7, which write nothing. OCCUPIED's value: the record that area search gives.
+-- Create: 1, 2, 4, 5, 6, 7. Value: the new solid's record. OCCUPIED's value: the record that area search gives.
 pub data CreateRefuses (t : List ℤ) (A : Area) (label : ℕ) (a : Answer) : Type 0 where
   unfit : Unfit t a → CreateRefuses t A label a
   rect : Fit t → (RectRight A → ⊥) → a ≡ refused RECT → CreateRefuses t A label a
@@ -105,22 +98,20 @@ pub record CreateAllows (t : List ℤ) (A : Area) (label : ℕ) : Type 0 where
   pub free : FreeArea t A
   pub few : solidsIn t < capacity (recordsOf t)
 
--- an accepted create, whose solid is record k
 pub record CreateDone (t : List ℤ) (A : Area) (label : ℕ) (t′ : List ℤ) (k : ℕ) : Type 0 where
   pub allows : CreateAllows t A label
   pub edited : Edited t t′
   pub adds : Adds t t′ k (drawn A label)
 
--- Value: the new solid's record.
 pub data CreateSays (t : List ℤ) (A : Area) (label : ℕ) (t′ : List ℤ) (a : Answer) : Type 0 where
   refuses : CreateRefuses t A label a → t′ ≡ t → CreateSays t A label t′ a
   done : (k : ℕ) → CreateDone t A label t′ k → a ≡ accepted k → CreateSays t A label t′ a
 
--- Delete at a cell: 1, 2, 3, 8, 12, which write nothing.
+-- Delete at a cell: 1, 2, 3, 8, 12. Value: the label removed.
 pub data DeleteRefuses (t : List ℤ) (x y : ℕ) (a : Answer) : Type 0 where
   unfit : Unfit t a → DeleteRefuses t x y a
   point : Fit t → (InPlane x y → ⊥) → a ≡ refused POINT → DeleteRefuses t x y a
-  space : Fit t → (i : ℕ) → Finds t x y i → num t i KIND ≡ Picture.SPACE → a ≡ refused SPACE → DeleteRefuses t x y a
+  space : Fit t → (i : ℕ) → Finds t x y i → SpaceIn t i → a ≡ refused SPACE → DeleteRefuses t x y a
   room : Fit t → (i : ℕ) → Finds t x y i → SolidIn t i → NoRoom t → a ≡ refused ROOM → DeleteRefuses t x y a
 
 -- what holds where none of them does: the solid of record i holds the cell
@@ -130,16 +121,14 @@ pub record DeleteAllows (t : List ℤ) (x y i : ℕ) : Type 0 where
   pub solid : SolidIn t i
   pub room : NoRoom t → ⊥
 
--- an accepted delete of record i
 pub record DeleteDone (t : List ℤ) (x y : ℕ) (t′ : List ℤ) (i : ℕ) : Type 0 where
   pub allows : DeleteAllows t x y i
   pub edited : Edited t t′
   pub removes : Removes t t′ i
 
--- Value: the label removed.
 pub data DeleteSays (t : List ℤ) (x y : ℕ) (t′ : List ℤ) (a : Answer) : Type 0 where
   refuses : DeleteRefuses t x y a → t′ ≡ t → DeleteSays t x y t′ a
-  done : (i : ℕ) → DeleteDone t x y t′ i → a ≡ accepted (num t i Words.LABEL - ZERO) → DeleteSays t x y t′ a
+  done : (i : ℕ) → DeleteDone t x y t′ i → a ≡ accepted (labelIn t i) → DeleteSays t x y t′ a
 
 -- Save: 1, 2, 10. Value: bytes written.
 pub data SaveSays (t : List ℤ) (out out′ : List ℕ) (a : Answer) : Type 0 where
@@ -162,8 +151,7 @@ pub data LoadStops (t : List ℤ) (bs : List ℕ) (a : Answer) : Type 0 where
   stops : SizeRight t → length bs % 20 ≡ 0 → (n number value : ℕ) (u : List ℤ) → n < length bs / 20 → Built (length t) bs n u
       → CreateRefuses u (areaIn bs n) (savedAt bs n .label) (answered number value) → a ≡ answered number n → LoadStops t bs a
 
--- Load: 1, 11, then fresh, then one create for each record in file order. At the first refused one the table is a fresh plane. A load that ends well gives
--- the number of records.
+-- Load: 1, 11, then fresh, then one create for each record in file order; at the first refused one a fresh plane. Value: the number of records.
 pub data LoadSays (t : List ℤ) (bs : List ℕ) (t′ : List ℤ) (a : Answer) : Type 0 where
   size : (SizeRight t → ⊥) → a ≡ refused SIZE → t′ ≡ t → LoadSays t bs t′ a
   file : SizeRight t → length bs % 20 ≢ 0 → a ≡ refused FILE → t′ ≡ t → LoadSays t bs t′ a

@@ -18,11 +18,11 @@ use Rattle.geometry.specs.Listed.{entry, listed-short}
 use Rattle.table.specs.Sound.{UsedIn}
 use Rattle.table.specs.Forms.{planeIn, stitchesIn, Forms, used-is}
 use Rattle.seek.specs.Find.{Finds}
-use Rattle.seek.specs.Neighbours.{sideOf, Neighbours}
+use Rattle.seek.specs.Neighbours.{IsSide, sideOf, Neighbours}
 use Rattle.seek.specs.Sides.{good, sees-is, neighbours-listed, neighbours-one}
 use Rattle.seek.specs.Listing.{Counts, Written, Lists}
 use Rattle.ushanderi.specs.Answers.{SHORT, accepted, answered}
-use Rattle.ushanderi.specs.Promises.{Fit, FindSays, NeighboursSays, IsSide, listed}
+use Rattle.ushanderi.specs.Promises.{Fit, FindSays, listed, NeighboursSays}
 use Rattle.ushanderi.specs.declared.answer.Answer.{Answer}
 use Rattle.ushanderi.specs.declared.reading.Found.{Found}
 use Rattle.ushanderi.specs.Reading.{foundAnswer, NotFound, found-at}

@@ -12,48 +12,32 @@ pub struct Answer {
 
 pub const DONE: i32 = 0;
 
-pub const SIZE: i32 = 1;
+pub(crate) const SIZE: i32 = 1;
 
-pub const UNSOUND: i32 = 2;
+pub(crate) const UNSOUND: i32 = 2;
 
-pub const POINT: i32 = 3;
+pub(crate) const POINT: i32 = 3;
 
-pub const RECT: i32 = 4;
+pub(crate) const RECT: i32 = 4;
 
-pub const LABEL: i32 = 5;
+pub(crate) const LABEL: i32 = 5;
 
-pub const OCCUPIED: i32 = 6;
+pub(crate) const OCCUPIED: i32 = 6;
 
-pub const FULL: i32 = 7;
+pub(crate) const FULL: i32 = 7;
 
-pub const SPACE: i32 = 8;
+pub(crate) const SPACE: i32 = 8;
 
-pub const SIDE: i32 = 9;
+pub(crate) const SIDE: i32 = 9;
 
-pub const SHORT: i32 = 10;
+pub(crate) const SHORT: i32 = 10;
 
-pub const FILE: i32 = 11;
+pub(crate) const FILE: i32 = 11;
 
 // Area search's value where the rectangle is free.
-pub const NOTHING: i32 = -1;
+pub(crate) const NOTHING: i32 = -1;
 
-pub(crate) fn done(value: u64) -> Answer
-    requires { ⌜ value < 2 ^ 31 ⌝ }
-    ensures { λ r. ⌜ r ≡ accepted value ⌝ }
-{
-    Answer {
-        number: DONE,
-        value: ruler::count(value),
-    }
-}
-
-// A refusal's value is 0 unless said.
-pub(crate) fn refused(number: i32) -> Answer
-    ensures { λ r. ⌜ r ≡ record { number = number; value = pos 0 } ⌝ }
-{
-    Answer { number, value: 0 }
-}
-
+// The value is a count, or a record's number.
 pub(crate) fn answered(number: i32, value: u64) -> Answer
     requires { ⌜ value < 2 ^ 31 ⌝ }
     ensures { λ r. ⌜ r ≡ record { number = number; value = pos value } ⌝ }
@@ -62,4 +46,11 @@ pub(crate) fn answered(number: i32, value: u64) -> Answer
         number,
         value: ruler::count(value),
     }
+}
+
+pub(crate) fn done(value: u64) -> Answer
+    requires { ⌜ value < 2 ^ 31 ⌝ }
+    ensures { λ r. ⌜ r ≡ accepted value ⌝ }
+{
+    answered(DONE, value)
 }

@@ -1,8 +1,7 @@
 // The calls that change a plane: create and delete. Each decides first, which only reads, and then acts.
-ghost use mathlib.Core.Path.{_≡_};
 ghost use Prim.Native.Nat.{_<_, _^_};
-ghost use Rattle.table.specs.Sound.{UsedIn};
 ghost use Rattle.ruler.specs.Ruler.{ruler};
+ghost use Rattle.table.specs.Sound.{UsedIn};
 ghost use Rattle.seek.specs.Meaning.{SolidIn};
 ghost use Rattle.seek.specs.Enumerate.{areaOf};
 ghost use Rattle.ushanderi.specs.Promises.{Fit, CreateAllows, CreateDone, CreateSays, DeleteSays};
@@ -16,7 +15,6 @@ use crate::answer::RECT;
 use crate::answer::SPACE;
 use crate::answer::answered;
 use crate::answer::done;
-use crate::answer::refused;
 use crate::entry::Entry;
 use crate::entry::admit;
 use crate::entry::entry_answer;
@@ -24,7 +22,6 @@ use crate::reading::Found;
 use crate::reading::area;
 use crate::reading::find;
 use crate::reading::found_answer;
-use crate::reading::rect_right;
 use seek::Area;
 use seek::Seen;
 use table::numbers;
@@ -40,9 +37,12 @@ fn may_create(t: &[i32], from: usize, area: Area, label: u64, solids: usize) -> 
     requires { ⌜ Ready (now t) from label solids ⌝ }
     ensures { λ r. ⌜ CreateDecides (now (t .entry)) (areaOf area) label r ⌝ }
 {
-    if rect_right(area) {
+    if seek::rect_right(area) {
         if label <= numbers::ZERO {
-            return MayCreate::Refused(refused(LABEL));
+            return MayCreate::Refused(Answer {
+                number: LABEL,
+                value: 0,
+            });
         }
         let s = seek::search(t, from, area.left, area.bottom, area.right, area.top);
         if let Seen::Solid(i, _, _) = s {
@@ -51,9 +51,15 @@ fn may_create(t: &[i32], from: usize, area: Area, label: u64, solids: usize) -> 
         if solids < table::capacity(t) {
             return MayCreate::Go;
         }
-        return MayCreate::Refused(refused(FULL));
+        return MayCreate::Refused(Answer {
+            number: FULL,
+            value: 0,
+        });
     }
-    MayCreate::Refused(refused(RECT))
+    MayCreate::Refused(Answer {
+        number: RECT,
+        value: 0,
+    })
 }
 
 // The act, where the decision lets it go on: the new solid's record.
@@ -128,7 +134,10 @@ fn may_delete(t: &[i32], x: i32, y: i32) -> MayDelete
     if table::word(t, i, numbers::KIND) == numbers::SOLID {
         return MayDelete::Go(i);
     }
-    MayDelete::Refused(refused(SPACE))
+    MayDelete::Refused(Answer {
+        number: SPACE,
+        value: 0,
+    })
 }
 
 // The act: the label of the solid taken away.

@@ -5,9 +5,8 @@ use crate::answer::Answer;
 use crate::answer::SIZE;
 use crate::answer::UNSOUND;
 use crate::answer::done;
-use crate::answer::refused;
 
-pub enum Entry {
+pub(crate) enum Entry {
     Size,
     Unsound,
     Sound(usize),
@@ -35,8 +34,14 @@ pub(crate) fn entry_answer(e: Entry) -> Answer
     ensures { λ r. ⌜ r ≡ entryAnswer e ⌝ }
 {
     match e {
-        Entry::Size => refused(SIZE),
-        Entry::Unsound => refused(UNSOUND),
+        Entry::Size => Answer {
+            number: SIZE,
+            value: 0,
+        },
+        Entry::Unsound => Answer {
+            number: UNSOUND,
+            value: 0,
+        },
         Entry::Sound(solids) => done(solids as u64),
     }
 }

@@ -7,7 +7,6 @@ ghost use Rattle.layout.specs.Bytes.{savedAt};
 ghost use Rattle.ushanderi.specs.Promises.{Fit, SaveSays, areaIn, LoadSays};
 ghost use Rattle.ushanderi.specs.Editing.{CreateEnds};
 use crate::answer::Answer;
-use crate::answer::DONE;
 use crate::answer::FILE;
 use crate::answer::SHORT;
 use crate::answer::SIZE;
@@ -31,16 +30,10 @@ fn save_in(t: &[i32], out: &mut [u8], solids: usize) -> Answer
 {
     let need = SAVED * solids;
     if out.len() < need {
-        return Answer {
-            number: SHORT,
-            value: ruler::count(need as u64),
-        };
+        return answered(SHORT, need as u64);
     }
     let written = layout::save(t, out);
-    Answer {
-        number: DONE,
-        value: ruler::count(written as u64),
-    }
+    done(written as u64)
 }
 
 pub fn save(t: &[i32], out: &mut [u8]) -> Answer

@@ -2,8 +2,8 @@
 ghost use mathlib.Core.Path.{_≡_};
 ghost use mathlib.Core.Logic.{_↔_};
 ghost use lib.Dec.{T};
-ghost use Rattle.table.specs.Sound.{UsedIn};
 ghost use Rattle.ruler.specs.Ruler.{ruler};
+ghost use Rattle.table.specs.Sound.{UsedIn};
 ghost use Rattle.seek.specs.Meaning.{RectRight};
 ghost use Rattle.seek.specs.Enumerate.{areaOf};
 ghost use Rattle.ushanderi.specs.Promises.{Fit, FindSays, NeighboursSays, SearchSays, EnumerateSays};
@@ -18,13 +18,13 @@ use crate::answer::SHORT;
 use crate::answer::SIDE;
 use crate::answer::SIZE;
 use crate::answer::UNSOUND;
+use crate::answer::answered;
+use crate::answer::done;
 use crate::entry::Entry;
 use crate::entry::admit;
 use crate::entry::entry_answer;
 use seek::Area;
 use seek::Seen;
-use table::numbers::HIGH;
-use table::numbers::LOW;
 use table::numbers::ZERO;
 
 // What find answers: the record that holds the cell, or why there is none.
@@ -65,10 +65,7 @@ pub(crate) fn found_answer(f: Found) -> Answer
     ensures { λ r. ⌜ r ≡ foundAnswer f ⌝ }
 {
     match f {
-        Found::At(i) => Answer {
-            number: DONE,
-            value: ruler::count(i as u64),
-        },
+        Found::At(i) => done(i as u64),
         Found::Size => Answer {
             number: SIZE,
             value: 0,
@@ -105,16 +102,10 @@ fn list_side(t: &[i32], i: usize, side: usize, out: &mut [i32]) -> Answer
 {
     let n = seek::count_side(t, i, side);
     if out.len() < n {
-        return Answer {
-            number: SHORT,
-            value: ruler::count(n as u64),
-        };
+        return answered(SHORT, n as u64);
     }
     seek::list_side(t, i, side, out);
-    Answer {
-        number: DONE,
-        value: ruler::count(n as u64),
-    }
+    done(n as u64)
 }
 
 pub fn neighbours(t: &[i32], x: i32, y: i32, side: i32, out: &mut [i32]) -> Answer
@@ -147,37 +138,6 @@ pub(crate) fn area(left: i32, bottom: i32, right: i32, top: i32) -> Area
     }
 }
 
-// Whether RECT lets an area pass.
-pub(crate) fn rect_right(area: Area) -> bool
-    ensures { λ r. ⌜ T r ↔ RectRight (areaOf area) ⌝ }
-{
-    let Area {
-        left,
-        bottom,
-        right,
-        top,
-    } = area;
-    if right <= left {
-        return false;
-    }
-    if top <= bottom {
-        return false;
-    }
-    if left < LOW {
-        return false;
-    }
-    if HIGH < right {
-        return false;
-    }
-    if bottom < LOW {
-        return false;
-    }
-    if HIGH < top {
-        return false;
-    }
-    true
-}
-
 // The solid at an area's first occupied cell, on a table that passed the checks 1 and 2.
 fn search_in(t: &[i32], area: Area) -> Answer
     requires { ⌜ Fit (now t) ⌝ }
@@ -191,10 +151,7 @@ fn search_in(t: &[i32], area: Area) -> Answer
             number: DONE,
             value: NOTHING,
         },
-        Seen::Solid(i, _, _) => Answer {
-            number: DONE,
-            value: ruler::count(i as u64),
-        },
+        Seen::Solid(i, _, _) => done(i as u64),
     }
 }
 
@@ -206,7 +163,7 @@ pub fn search(t: &[i32], left: i32, bottom: i32, right: i32, top: i32) -> Answer
         return entry_answer(e);
     };
     let a = area(left, bottom, right, top);
-    if rect_right(a) {
+    if seek::rect_right(a) {
         search_in(t, a)
     } else {
         Answer {
@@ -225,16 +182,10 @@ fn enumerate_in(t: &[i32], area: Area, out: &mut [i32]) -> Answer
     let from = seek::first_used(t);
     let needed = seek::count_area(t, from, area);
     if out.len() < needed {
-        return Answer {
-            number: SHORT,
-            value: ruler::count(needed as u64),
-        };
+        return answered(SHORT, needed as u64);
     }
     let written = seek::list_area(t, out, from, area);
-    Answer {
-        number: DONE,
-        value: ruler::count(written as u64),
-    }
+    done(written as u64)
 }
 
 pub fn enumerate(t: &[i32], left: i32, bottom: i32, right: i32, top: i32, out: &mut [i32]) -> Answer
@@ -245,7 +196,7 @@ pub fn enumerate(t: &[i32], left: i32, bottom: i32, right: i32, top: i32, out: &
         return entry_answer(e);
     };
     let a = area(left, bottom, right, top);
-    if rect_right(a) {
+    if seek::rect_right(a) {
         enumerate_in(t, a, out)
     } else {
         Answer {

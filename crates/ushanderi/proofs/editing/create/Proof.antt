@@ -1,7 +1,6 @@
 -- `ushanderi::editing::create` meets its promise: where the checks refuse, what they say; else what `create_one` gives. Assumes nothing.
-use denote.Enum.Declared.{tagOf}
-use Rattle.ushanderi.proofs.entry.Entry.{the-type}
 use mathlib.Core.Path.{refl, sym, ap, _∙_, subst}
+use denote.Enum.Declared.{tagOf}
 use Rattle.ruler.specs.Ruler.{ruler-bits}
 use Rattle.ushanderi.specs.Promises.{Unfit, CreateRefuses, CreateSays}
 use Rattle.ushanderi.specs.Entry.{admits-fit, admits-few}
@@ -9,6 +8,7 @@ use Rattle.ushanderi.specs.Reading.{fit-forms, admits-unfit, not-third}
 use Rattle.ushanderi.specs.ReadingAreas.{area-bits}
 use Rattle.ushanderi.specs.Editing.{CreateEnds, create-same, done-low}
 use borrow.Author.Needs.{needs}
+use Rattle.ushanderi.proofs.entry.Entry.{the-type}
 use Rattle.ushanderi.proofs.editing.create.Statement.{statement}
 use Rattle.ushanderi.proofs.editing.create.Tie as tie
 

@@ -1,4 +1,5 @@
 -- `ushanderi::editing::may_create` meets its contract, check by check. Assumes nothing.
+use mathlib.Core.Path.{refl}
 use native.Mathlib.Omega.{arith}
 use Rattle.geometry.specs.Cases.{yes, no}
 use Rattle.ushanderi.specs.Promises.{CreateRefuses}
@@ -12,14 +13,11 @@ use Rattle.ushanderi.proofs.editing.may_create.Tie as tie
 rect-right-requires : tie.Need-rect-right-requires
 rect-right-requires c κs = search needs
 
-refused-requires : tie.Need-refused-requires
-refused-requires c κs = search needs
-
 returns : tie.Need-returns
 returns c =
-    let k = c .before .before in
+    let k = c .before in
     let s = k .before .before in
-    CreateRefuses.label (s .pre .fit) (yes (k .before .rect-right .ensures) (k .if1 .taken)) (c .before .if2 .taken) (c .refused .ensures)
+    CreateRefuses.label (s .pre .fit) (yes (k .before .rect-right .ensures) (k .if1 .taken)) (c .if2 .taken) refl
 
 search-requires : tie.Need-search-requires
 search-requires c κs =
@@ -66,35 +64,25 @@ returns-3 c =
       few = omega (arith, s .pre .number, c .before .capacity .ensures, c .if3 .taken);
     }
 
-refused-requires-2 : tie.Need-refused-requires-2
-refused-requires-2 c κs = search needs
-
 returns-4 : tie.Need-returns-4
 returns-4 c =
-    let f = c .before in
-    let n = f .before .before in
+    let n = c .before .before in
     let r = n .before .before in
     let l = r .before in
     let k = l .before in
     let s = k .before .before in
     CreateRefuses.full (s .pre .fit) (yes (k .before .rect-right .ensures) (k .if1 .taken)) (l .if2 .left)
     (searches-free _ _ _ (r .search .ensures) (n .enum-told .given .1))
-    (laid-full _ (s .pre .fit) (omega (arith, s .pre .number, f .before .capacity .ensures, f .if3 .left))) (c .refused2 .ensures)
-
-refused-requires-3 : tie.Need-refused-requires-3
-refused-requires-3 c κs = search needs
+    (laid-full _ (s .pre .fit) (omega (arith, s .pre .number, c .before .capacity .ensures, c .if3 .left))) refl
 
 returns-5 : tie.Need-returns-5
-returns-5 c =
-    let k = c .before in
-    CreateRefuses.rect (k .before .before .pre .fit) (no (k .before .rect-right .ensures) (k .if1 .left)) (c .refused3 .ensures)
+returns-5 c = CreateRefuses.rect (c .before .before .pre .fit) (no (c .before .rect-right .ensures) (c .if1 .left)) refl
 
 pub may-create-spec : {M : Type 1} → statement M
 may-create-spec =
     tie.close
     (tie.spec
     rect-right-requires
-    refused-requires
     returns
     search-requires
     enum-known-s
@@ -103,7 +91,5 @@ may-create-spec =
     enum-told
     capacity-requires
     returns-3
-    refused-requires-2
     returns-4
-    refused-requires-3
     returns-5)

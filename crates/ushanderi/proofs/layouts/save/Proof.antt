@@ -1,11 +1,11 @@
 -- `ushanderi::layouts::save` meets its promise: where the checks refuse, what they say; else what `save_in` gives. Assumes nothing.
-use denote.Enum.Declared.{tagOf}
-use Rattle.ushanderi.proofs.entry.Entry.{the-type}
 use mathlib.Core.Path.{refl, sym, ap, subst}
+use denote.Enum.Declared.{tagOf}
 use Rattle.ushanderi.specs.Promises.{Unfit, SaveSays}
 use Rattle.ushanderi.specs.Entry.{admits-fit, admits-few}
 use Rattle.ushanderi.specs.Reading.{admits-unfit, not-third}
 use borrow.Author.Needs.{needs}
+use Rattle.ushanderi.proofs.entry.Entry.{the-type}
 use Rattle.ushanderi.proofs.layouts.save.Statement.{statement}
 use Rattle.ushanderi.proofs.layouts.save.Tie as tie
 

@@ -1,6 +1,5 @@
 -- `ushanderi::layouts::save_in` meets its contract: what it needs is twenty bytes for each solid. Assumes nothing.
 use native.Mathlib.Omega.{arith}
-use Rattle.ruler.specs.Ruler.{count-bits}
 use Rattle.layout.specs.OneOrder.{saves-bytes}
 use Rattle.ushanderi.specs.Reading.{fit-forms}
 use Rattle.ushanderi.specs.Layouts.{save-low, save-short, save-done}
@@ -11,24 +10,23 @@ use Rattle.ushanderi.proofs.layouts.save_in.Tie as tie
 mul-need : tie.Need-mul-need
 mul-need c = record { fits = omega (arith, c .before .pre .1, save-low _ (c .before .pre .0)) }
 
-count-requires : tie.Need-count-requires
-count-requires c κs =
+answered-requires : tie.Need-answered-requires
+answered-requires c κs =
     let s = c .before .before in
     omega (arith, s .pre .1, save-low _ (s .pre .0))
 
 returns : tie.Need-returns
 returns c =
     let s = c .before .before .before in
-    let b = count-bits _ (c .count .result) (c .count .ensures) (count-requires (c .before) _) in
-    rw b (save-short _ _ _ (s .pre .0) (omega (arith, s .pre .1)) (c .before .if1 .taken))
+    rw (c .answered .ensures) (save-short _ _ _ (s .pre .0) (omega (arith, s .pre .1)) (c .before .if1 .taken))
 
 save-requires : tie.Need-save-requires
 save-requires c κs =
     let s = c .before .before .before in
     (fit-forms _ (s .pre .0), (s .pre .0 .size, omega (arith, s .pre .1, c .before .if1 .left)))
 
-count-requires-2 : tie.Need-count-requires-2
-count-requires-2 c κs =
+done-requires : tie.Need-done-requires
+done-requires c κs =
     let k = c .before .before in
     let s = k .before .before .before .before in
     omega (arith, saves-bytes _ _ _ _ (k .save .ensures), save-low _ (s .pre .0))
@@ -40,10 +38,9 @@ returns-2 : tie.Need-returns-2
 returns-2 c =
     let k = c .before .before .before in
     let s = k .before .before .before .before in
-    let b = count-bits _ (c .count2 .result) (c .count2 .ensures) (count-requires-2 (c .before) _) in
-    rw b (save-done _ _ _ _ (s .pre .0) (save-requires (k .before) (k .save .lifetimes) .1 .1) (k .save .ensures))
+    rw (c .done .ensures) (save-done _ _ _ _ (s .pre .0) (save-requires (k .before) (k .save .lifetimes) .1 .1) (k .save .ensures))
 
 pub save-in-spec : {M : Type 1} → statement M
 save-in-spec =
     tie.close
-    (tie.spec mul-need count-requires returns save-requires count-requires-2 same-length returns-2)
+    (tie.spec mul-need answered-requires returns save-requires done-requires same-length returns-2)

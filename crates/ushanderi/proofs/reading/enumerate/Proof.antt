@@ -1,7 +1,6 @@
 -- `ushanderi::reading::enumerate` meets its promise: where the checks refuse, what they say; else what `enumerate_in` gives. Assumes nothing.
-use denote.Enum.Declared.{tagOf}
-use Rattle.ushanderi.proofs.entry.Entry.{the-type}
 use mathlib.Core.Path.{refl, sym, ap, _∙_, subst}
+use denote.Enum.Declared.{tagOf}
 use Rattle.geometry.specs.Cases.{yes, no}
 use Rattle.seek.specs.Meaning.{RectRight}
 use Rattle.ushanderi.specs.Promises.{Unfit, EnumerateSays}
@@ -9,6 +8,7 @@ use Rattle.ushanderi.specs.Entry.{admits-fit, admits-few}
 use Rattle.ushanderi.specs.Reading.{admits-unfit, not-third}
 use Rattle.ushanderi.specs.ReadingAreas.{area-bits, enumerate-same}
 use borrow.Author.Needs.{needs}
+use Rattle.ushanderi.proofs.entry.Entry.{the-type}
 use Rattle.ushanderi.proofs.reading.enumerate.Statement.{statement}
 use Rattle.ushanderi.proofs.reading.enumerate.Tie as tie
 

@@ -1,5 +1,4 @@
 -- `ushanderi::reading::enumerate_in` meets its contract: what is counted is what is listed. Assumes nothing.
-use Rattle.ruler.specs.Ruler.{count-bits}
 use Rattle.seek.specs.Writing.{writes-count}
 use Rattle.ushanderi.specs.Reading.{fit-forms}
 use Rattle.ushanderi.specs.ReadingAreas.{area-low, enumerate-short, enumerate-done}
@@ -15,15 +14,14 @@ count-area-requires c κs =
     let s = c .before in
     (fit-forms _ (s .pre .0), (s .pre .0 .size, (c .first-used .ensures .used, s .pre .1)))
 
-count-requires : tie.Need-count-requires
-count-requires c κs = area-low _ _ _ (c .before .before .before .pre .0) (c .before .count-area .ensures)
+answered-requires : tie.Need-answered-requires
+answered-requires c κs = area-low _ _ _ (c .before .before .before .pre .0) (c .before .count-area .ensures)
 
 returns : tie.Need-returns
 returns c =
     let n = c .before .before in
     let s = n .before .before in
-    let b = count-bits (n .count-area .result) (c .count .result) (c .count .ensures) (count-requires (c .before) _) in
-    rw b (enumerate-short _ _ _ _ (s .pre .0) (s .pre .1) (n .count-area .ensures) (c .before .if1 .taken))
+    rw (c .answered .ensures) (enumerate-short _ _ _ _ (s .pre .0) (s .pre .1) (n .count-area .ensures) (c .before .if1 .taken))
 
 list-area-requires : tie.Need-list-area-requires
 list-area-requires c κs =
@@ -31,8 +29,8 @@ list-area-requires c κs =
     let s = u .before in
     (fit-forms _ (s .pre .0), (s .pre .0 .size, (u .first-used .ensures .used, s .pre .1)))
 
-count-requires-2 : tie.Need-count-requires-2
-count-requires-2 c κs =
+done-requires : tie.Need-done-requires
+done-requires c κs =
     let l = c .before in
     area-low _ _ _ (l .before .before .before .before .before .pre .0) (writes-count _ _ _ _ (l .list-area .ensures))
 
@@ -44,8 +42,7 @@ returns-2 c =
     let l = c .before .before in
     let n = l .before .before .before in
     let s = n .before .before in
-    let b = count-bits (l .list-area .result) (c .count2 .result) (c .count2 .ensures) (count-requires-2 (c .before) _) in
-    rw b (enumerate-done _ _ _ _ _ _ (s .pre .0) (s .pre .1) (n .count-area .ensures) (l .before .before .if1 .left) (l .list-area .ensures))
+    rw (c .done .ensures) (enumerate-done _ _ _ _ _ _ (s .pre .0) (s .pre .1) (n .count-area .ensures) (l .before .before .if1 .left) (l .list-area .ensures))
 
 pub enumerate-in-spec : {M : Type 1} → statement M
 enumerate-in-spec =
@@ -53,9 +50,9 @@ enumerate-in-spec =
     (tie.spec
     first-used-requires
     count-area-requires
-    count-requires
+    answered-requires
     returns
     list-area-requires
-    count-requires-2
+    done-requires
     same-length
     returns-2)

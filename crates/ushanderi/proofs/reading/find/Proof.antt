@@ -1,7 +1,7 @@
 -- `ushanderi::reading::find` meets its promise. Assumes nothing.
-use Rattle.ushanderi.specs.Reading.{size-unfit, unsound-unfit}
 use mathlib.Core.Path.{subst₂, _∙_}
 use Rattle.ruler.specs.Ruler.{ruler-bits}
+use Rattle.ushanderi.specs.Reading.{size-unfit, unsound-unfit}
 use Rattle.ushanderi.specs.Promises.{FindSays}
 use Rattle.ushanderi.specs.Entry.{admits-fit}
 use Rattle.ushanderi.specs.Reading.{foundAnswer, size-unfit, unsound-unfit}

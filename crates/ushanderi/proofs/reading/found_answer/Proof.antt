@@ -1,8 +1,5 @@
 -- `ushanderi::reading::found_answer` meets its contract, case by case. Assumes nothing.
 use mathlib.Core.Path.{sym, ap, _∙_}
-use lib.IntN.{pos}
-use Rattle.ruler.specs.Ruler.{count-bits}
-use Rattle.ushanderi.specs.Answers.{DONE}
 use Rattle.ushanderi.specs.Reading.{foundAnswer}
 use borrow.Author.Needs.{needs}
 use Rattle.ushanderi.proofs.reading.found_answer.Statement.{statement}
@@ -11,8 +8,8 @@ use Rattle.ushanderi.proofs.reading.found_answer.Tie as tie
 enum-known-f : tie.Need-enum-known-f
 enum-known-f c = search needs
 
-count-requires : tie.Need-count-requires
-count-requires c κs = c .before .before .before .pre _ (c .before .f .given .1)
+done-requires : tie.Need-done-requires
+done-requires c κs = c .before .before .before .pre _ (c .before .f .given .1)
 
 enum-told : tie.Need-enum-told
 enum-told c = search needs
@@ -24,10 +21,7 @@ enum-told-3 : tie.Need-enum-told-3
 enum-told-3 c = search needs
 
 returns : tie.Need-returns
-returns c =
-    let f = c .before .before .f .given in
-    let b = count-bits (f .0 .0) (c .count .result) (c .count .ensures) (count-requires (c .before) _) in
-    ap (λ z. record { number = pos DONE; value = z }) b ∙ sym (ap foundAnswer (f .1))
+returns c = c .done .ensures ∙ sym (ap foundAnswer (c .before .before .f .given .1))
 
 returns-2 : tie.Need-returns-2
 returns-2 c = sym (ap foundAnswer (c .enum-told .given .1))
@@ -43,7 +37,7 @@ found-answer-spec =
     tie.close
     (tie.spec
     enum-known-f
-    count-requires
+    done-requires
     enum-told
     enum-told-2
     enum-told-3

@@ -1,5 +1,4 @@
 -- `ushanderi::reading::list_side` meets its contract: what is counted is what is listed. Assumes nothing.
-use Rattle.ruler.specs.Ruler.{count-bits}
 use Rattle.seek.specs.Listing.{counts-fits}
 use Rattle.ushanderi.specs.Reading.{fit-forms}
 use Rattle.ushanderi.specs.ReadingSides.{counts-low, side-short, side-done}
@@ -10,8 +9,8 @@ use Rattle.ushanderi.proofs.reading.list_side.Tie as tie
 count-side-requires : tie.Need-count-side-requires
 count-side-requires c κs = (fit-forms _ (c .pre .0), (c .pre .0 .size, c .pre .1))
 
-count-requires : tie.Need-count-requires
-count-requires c κs =
+answered-requires : tie.Need-answered-requires
+answered-requires c κs =
     let n = c .before in
     let s = n .before in
     counts-low _ (fit-forms _ (s .pre .0)) _ _ _ (s .pre .1) (n .count-side .ensures)
@@ -19,8 +18,7 @@ count-requires c κs =
 returns : tie.Need-returns
 returns c =
     let n = c .before .before in
-    let b = count-bits (n .count-side .result) (c .count .result) (c .count .ensures) (count-requires (c .before) _) in
-    rw b (side-short _ _ _ _ _ (n .count-side .ensures) (c .before .if1 .taken))
+    rw (c .answered .ensures) (side-short _ _ _ _ _ (n .count-side .ensures) (c .before .if1 .taken))
 
 list-side-requires : tie.Need-list-side-requires
 list-side-requires c κs =
@@ -28,8 +26,8 @@ list-side-requires c κs =
     let s = n .before in
     (fit-forms _ (s .pre .0), (s .pre .0 .size, (s .pre .1, counts-fits _ _ _ _ _ (n .count-side .ensures) (c .before .if1 .left))))
 
-count-requires-2 : tie.Need-count-requires-2
-count-requires-2 c κs =
+done-requires : tie.Need-done-requires
+done-requires c κs =
     let n = c .before .before .before .before in
     let s = n .before in
     counts-low _ (fit-forms _ (s .pre .0)) _ _ _ (s .pre .1) (n .count-side .ensures)
@@ -42,17 +40,16 @@ returns-2 c =
     let l = c .before .before in
     let n = l .before .before .before in
     let s = n .before in
-    let b = count-bits (n .count-side .result) (c .count2 .result) (c .count2 .ensures) (count-requires-2 (c .before) _) in
-    rw b (side-done _ (fit-forms _ (s .pre .0)) _ _ _ _ _ (s .pre .1) (n .count-side .ensures) (l .before .before .if1 .left) (l .list-side .ensures))
+    rw (c .done .ensures) (side-done _ (fit-forms _ (s .pre .0)) _ _ _ _ _ (s .pre .1) (n .count-side .ensures) (l .before .before .if1 .left) (l .list-side .ensures))
 
 pub list-side-spec : {M : Type 1} → statement M
 list-side-spec =
     tie.close
     (tie.spec
     count-side-requires
-    count-requires
+    answered-requires
     returns
     list-side-requires
-    count-requires-2
+    done-requires
     same-length
     returns-2)

@@ -1,14 +1,14 @@
 -- `ushanderi::reading::neighbours` meets its promise: a find's refusal goes out unchanged; else what `list_side` gives. Assumes nothing.
-use denote.Enum.Declared.{tagOf}
-use Rattle.ushanderi.proofs.reading.Found.{the-type}
 use mathlib.Core.Path.{refl, sym, ap, _∙_, subst}
 use native.Mathlib.Omega.{arith}
+use denote.Enum.Declared.{tagOf}
 use Rattle.ruler.specs.Ruler.{ruler-bits}
 use Rattle.geometry.specs.Cases.{yes, no}
 use Rattle.ushanderi.specs.Promises.{NeighboursSays}
 use Rattle.ushanderi.specs.Reading.{fit-forms, find-at, find-low, find-bits, not-first}
 use Rattle.ushanderi.specs.ReadingSides.{finds-in-plane, refused-neighbours, side-is, side-not, side-neighbours}
 use borrow.Author.Needs.{needs}
+use Rattle.ushanderi.proofs.reading.Found.{the-type}
 use Rattle.ushanderi.proofs.reading.neighbours.Statement.{statement}
 use Rattle.ushanderi.proofs.reading.neighbours.Tie as tie
 

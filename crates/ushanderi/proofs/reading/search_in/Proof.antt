@@ -1,6 +1,5 @@
 -- `ushanderi::reading::search_in` meets its contract, case by case. Assumes nothing.
 use mathlib.Core.Path.{ap, subst}
-use Rattle.ruler.specs.Ruler.{count-bits}
 use Rattle.ushanderi.specs.Promises.{SearchSays}
 use Rattle.ushanderi.specs.Reading.{fit-forms}
 use Rattle.ushanderi.specs.ReadingAreas.{seenAnswer, searches-says, searches-low}
@@ -22,8 +21,8 @@ enum-told c = search needs
 enum-known-s : tie.Need-enum-known-s
 enum-known-s c = search needs
 
-count-requires : tie.Need-count-requires
-count-requires c κs =
+done-requires : tie.Need-done-requires
+done-requires c κs =
     let r = c .before .before .before in
     searches-low _ _ _ _ _ _ (r .before .before .pre .0 .size) (r .search .ensures) (c .before .s .given .1)
 
@@ -38,8 +37,7 @@ returns-2 c =
     let k = c .before .before in
     let r = k .before .before in
     let s = r .before .before in
-    let b = count-bits _ (c .count .result) (c .count .ensures) (count-requires (c .before) _) in
-    rw b (subst (SearchSays _ _) (ap seenAnswer (k .s .given .1)) (searches-says _ _ _ (s .pre .0) (s .pre .1) (r .search .ensures)))
+    rw (c .done .ensures) (subst (SearchSays _ _) (ap seenAnswer (k .s .given .1)) (searches-says _ _ _ (s .pre .0) (s .pre .1) (r .search .ensures)))
 
 pub search-in-spec : {M : Type 1} → statement M
 search-in-spec =
@@ -49,6 +47,6 @@ search-in-spec =
     search-requires
     enum-told
     enum-known-s
-    count-requires
+    done-requires
     returns
     returns-2)

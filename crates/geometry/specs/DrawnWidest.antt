@@ -12,14 +12,14 @@ use Rattle.geometry.specs.Plane.{Plane, Is, Holds, Formed}
 use Rattle.geometry.specs.Strips.{Space}
 use Rattle.geometry.specs.Runs.{run-span, Within, strip-one, SameSolids, same-strips}
 use Rattle.geometry.specs.StripAt.{held-cases, StripAt, strip-at}
-use Rattle.geometry.specs.Tiling.{planeOf, solidOf, Kinded, Widest, tile-ext, first-cell, eq→eqb, is-used, has-holds, holds-has, kind-solid, solid-used}
+use Rattle.geometry.specs.Tiling.{planeOf, solidOf, Kinded, Widest, tile-ext, space-alike, first-cell, eq→eqb, is-used, has-holds, holds-has, kind-solid, solid-used}
 
 module _ (R : ℕ) (tile : ℕ → Tile) (S : Solids) (a : Apart S) (d : Drawn R tile S) where
   abbrev P : Plane
   P = planeOf R tile
 
-  solid-kind : (i k : ℕ) → In S k → tile i ≡ S .at k → tile i .kind ≡ SOLID
-  solid-kind i k u e = ap (λ v. v .kind) e ∙ a .kind k u
+  solid-kind : (i k : ℕ) → In S k → tile i ≡ S .at k → tile i .paint .kind ≡ SOLID
+  solid-kind i k u e = ap (λ v. v .paint .kind) e ∙ a .kind k u
 
   strip-within : (v : Tile) (x y : ℕ) → Has v x y → Within (v .left) (v .bottom) (v .right) (v .top) x y
   strip-within v x y h = omega arith
@@ -28,12 +28,12 @@ module _ (R : ℕ) (tile : ℕ → Tile) (S : Solids) (a : Apart S) (d : Drawn R
   strip-free v x y s h = s .rows y (h .bottom) (h .top) .free x (h .left) (h .right)
 
   kinded : (i : ℕ) → TileOf S (tile i) → Kinded (tile i)
-  kinded i (TileOf.solid k u e) = Kinded.solid (solid-kind i k u e) (subst (λ v. ZERO < v .label) (sym e) (a .limits k u .label))
-  kinded i (TileOf.space k l s) = Kinded.space k l
+  kinded i (TileOf.solid k u e) = Kinded.solid (record { kind = solid-kind i k u e; label = subst (λ v. ZERO < v .paint .label) (sym e) (a .limits k u .label) })
+  kinded i (TileOf.space k s) = Kinded.space k
 
   formed : (i : ℕ) → TileOf S (tile i) → Formed P i
   formed i (TileOf.solid k u e) = let l : Limits (tile i) = subst Limits (sym e) (a .limits k u) in omega arith
-  formed i (TileOf.space k l s) =
+  formed i (TileOf.space k s) =
       let p = s .rows (tile i .bottom) (omega arith) (s .some) in
       let q = s .rows (tile i .top - 1) (omega (arith, s .some)) (omega (arith, s .some)) in
       omega (arith, s .some)
@@ -44,8 +44,8 @@ module _ (R : ℕ) (tile : ℕ → Tile) (S : Solids) (a : Apart S) (d : Drawn R
 
   strip-held : (x y : ℕ) → StripAt S x y → (i : ℕ) × Holds P i x y
   strip-held x y s =
-      tile-held (record { left = s .left; bottom = s .bottom; right = s .right; top = s .top; kind = SPACE; label = ZERO }) x y
-      (TileOf.space refl refl (s .strip)) (record { left = s .within .left; right = s .within .right; bottom = s .within .bottom; top = s .within .top })
+      tile-held (record { left = s .left; bottom = s .bottom; right = s .right; top = s .top; paint = record { kind = SPACE; label = ZERO } }) x y
+      (TileOf.space (record { kind = refl; label = refl }) (s .strip)) (record { left = s .within .left; right = s .within .right; bottom = s .within .bottom; top = s .within .top })
 
   covered : (x y : ℕ) → InPlane x y → (i : ℕ) × Holds P i x y
   covered x y p = held-cases S x y (λ k u h. tile-held (S .at k) x y (TileOf.solid k u refl) h) (λ f. strip-held x y (strip-at S x y p f))
@@ -53,17 +53,17 @@ module _ (R : ℕ) (tile : ℕ → Tile) (S : Solids) (a : Apart S) (d : Drawn R
   one-tile : (v w : Tile) (x y : ℕ) → TileOf S v → TileOf S w → Has v x y → Has w x y → v ≡ w
   one-tile v w x y (TileOf.solid k u e) (TileOf.solid m o c) h g =
       e ∙ ap (S .at) (a .apart k m x y u o (subst (λ v. Has v x y) e h) (subst (λ v. Has v x y) c g)) ∙ sym c
-  one-tile v w x y (TileOf.solid k u e) (TileOf.space i l s) h g = absurd (strip-free w x y s g k u (subst (λ v. Has v x y) e h))
-  one-tile v w x y (TileOf.space i l s) (TileOf.solid k u e) h g = absurd (strip-free v x y s h k u (subst (λ v. Has v x y) e g))
-  one-tile v w x y (TileOf.space i l s) (TileOf.space j m q) h g =
+  one-tile v w x y (TileOf.solid k u e) (TileOf.space i s) h g = absurd (strip-free w x y s g k u (subst (λ v. Has v x y) e h))
+  one-tile v w x y (TileOf.space i s) (TileOf.solid k u e) h g = absurd (strip-free v x y s h k u (subst (λ v. Has v x y) e g))
+  one-tile v w x y (TileOf.space i s) (TileOf.space j q) h g =
       tile-ext v w
       (strip-one S (v .left) (v .bottom) (v .right) (v .top) (w .left) (w .bottom) (w .right) (w .top) x y s q (strip-within v x y h) (strip-within w x y g))
-      (i ∙ sym j) (l ∙ sym m)
+      (space-alike (v .paint) (w .paint) i j)
 
   -- a used record that is no solid is a strip
   strip-of : (i : ℕ) → T (not (solidOf tile i)) → TileOf S (tile i) → Strip S (tile i .left) (tile i .bottom) (tile i .right) (tile i .top)
-  strip-of i t (TileOf.solid k u e) = absurd (T-not (solidOf tile i) t (eq→eqb (tile i .kind) SOLID (solid-kind i k u e)))
-  strip-of i t (TileOf.space k l s) = s
+  strip-of i t (TileOf.solid k u e) = absurd (T-not (solidOf tile i) t (eq→eqb (tile i .paint .kind) SOLID (solid-kind i k u e)))
+  strip-of i t (TileOf.space k s) = s
 
   tile-is : (i : ℕ) → Is P i → TileOf S (tile i)
   tile-is i u = d .each i (is-used R tile i u)
@@ -110,12 +110,12 @@ module _ (R : ℕ) (tile : ℕ → Tile) (S : Solids) (a : Apart S) (d : Drawn R
 
   shows-solid : (i : ℕ) → Used R tile i → T (solidOf tile i) → TileOf S (tile i) → (k : ℕ) × (k < S .size) × T (S .is k) × Shows i k
   shows-solid i u t (TileOf.solid k o e) = (k, o .below, o .is, record { used = u; solid = o; tile-at = e })
-  shows-solid i u t (TileOf.space k l s) = absurd (omega (arith, kind-solid R tile i t))
+  shows-solid i u t (TileOf.space k s) = absurd (omega (arith, kind-solid R tile i t))
 
   shown-solid : (k : ℕ) → In S k → (i : ℕ) × (i < R) × T (solidOf tile i) × Shows i k
   shown-solid k o =
       let (i, u, e) = d .all (S .at k) (TileOf.solid k o refl) in
-      (i, u .below, eq→eqb (tile i .kind) SOLID (solid-kind R tile S a d i k o e), record { used = u; solid = o; tile-at = e })
+      (i, u .below, eq→eqb (tile i .paint .kind) SOLID (solid-kind R tile S a d i k o e), record { used = u; solid = o; tile-at = e })
 
   one-record : (i j k : ℕ) → Shows i k → Shows j k → i ≡ j
   one-record i j k s q = d .once i j (s .used) (q .used) (s .tile-at ∙ sym (q .tile-at))
@@ -140,7 +140,7 @@ module _ (R : ℕ) (tile : ℕ → Tile) (S : Solids) (a : Apart S) (d : Drawn R
 
 pub same-tile-of : (S S′ : Solids) → SameSolids S S′ → (v : Tile) → TileOf S v → TileOf S′ v
 same-tile-of S S′ e v (TileOf.solid k u c) = let (j, o, q) = e .there k u in TileOf.solid j o (c ∙ sym q)
-same-tile-of S S′ e v (TileOf.space k l s) = TileOf.space k l (same-strips S S′ e (v .left) (v .bottom) (v .right) (v .top) s)
+same-tile-of S S′ e v (TileOf.space k s) = TileOf.space k (same-strips S S′ e (v .left) (v .bottom) (v .right) (v .top) s)
 
 -- two pictures of the same solids have the same tiles, space and solid; `same-turned` gives the other way
 pub same-tiles : (R R′ : ℕ) (tile tile′ : ℕ → Tile) (S S′ : Solids) → Drawn R tile S → Drawn R′ tile′ S′ → SameSolids S S′

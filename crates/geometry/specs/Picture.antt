@@ -5,6 +5,7 @@ use mathlib.Core.Bool.{Bool}
 use Prim.Native.Nat.{ℕ, _+_, _-_, _≤_, _<_}
 use lib.Dec.{T}
 use Rattle.geometry.specs.Count.{count}
+use Rattle.geometry.specs.declared.Paint.{Paint}
 
 -- the word 0 on the ruler; E is 01's, and the plane is every cell (x, y) with LOW <= x < HIGH and LOW <= y < HIGH
 abbrev pub ZERO : ℕ
@@ -35,13 +36,13 @@ SPACE = ZERO + 1
 abbrev pub SOLID : ℕ
 SOLID = ZERO + 2
 
+-- a tile's rectangle and what is painted on it, kind and label
 pub record Tile : Type 0 where
   pub left : ℕ
   pub bottom : ℕ
   pub right : ℕ
   pub top : ℕ
-  pub kind : ℕ
-  pub label : ℕ
+  pub paint : Paint
 
 -- a tile holds the cells with left <= x < right and bottom <= y < top
 pub record Has (v : Tile) (x y : ℕ) : Type 0 where
@@ -58,7 +59,7 @@ pub record Limits (v : Tile) : Type 0 where
   pub to-right : v .right ≤ HIGH
   pub from-bottom : LOW ≤ v .bottom
   pub to-top : v .top ≤ HIGH
-  pub label : ZERO < v .label
+  pub label : ZERO < v .paint .label
 
 -- A set of solids: one for each number k below `size` that `is` accepts.
 pub record Solids : Type 0 where
@@ -75,7 +76,7 @@ number S = count (S .size) (S .is)
 
 -- solids that keep the limits and share no cell
 pub record Apart (S : Solids) : Type 0 where
-  pub kind : (k : ℕ) → In S k → S .at k .kind ≡ SOLID
+  pub kind : (k : ℕ) → In S k → S .at k .paint .kind ≡ SOLID
   pub limits : (k : ℕ) → In S k → Limits (S .at k)
   pub apart : (j k x y : ℕ) → In S j → In S k → Has (S .at j) x y → Has (S .at k) x y → j ≡ k
 
@@ -101,15 +102,20 @@ pub record Strip (S : Solids) (left bottom right top : ℕ) : Type 0 where
   pub no-lower : Run S (bottom - 1) left right → ⊥
   pub no-higher : Run S top left right → ⊥
 
--- The tiles of a set of solids: each solid, and each space strip. Space has label 0.
+-- space has label 0
+pub record SpacePaint (p : Paint) : Type 0 where
+  pub kind : p .kind ≡ SPACE
+  pub label : p .label ≡ ZERO
+
+-- The tiles of a set of solids: each solid, and each space strip.
 pub data TileOf (S : Solids) (v : Tile) : Type 0 where
   solid : (k : ℕ) → In S k → v ≡ S .at k → TileOf S v
-  space : v .kind ≡ SPACE → v .label ≡ ZERO → Strip S (v .left) (v .bottom) (v .right) (v .top) → TileOf S v
+  space : SpacePaint (v .paint) → Strip S (v .left) (v .bottom) (v .right) (v .top) → TileOf S v
 
 -- Of R records the used ones are exactly the tiles of S, each tile once.
 pub record Used (R : ℕ) (tile : ℕ → Tile) (i : ℕ) : Type 0 where
   pub below : i < R
-  pub used : tile i .kind ≢ FREE
+  pub used : tile i .paint .kind ≢ FREE
 
 pub record Drawn (R : ℕ) (tile : ℕ → Tile) (S : Solids) : Type 0 where
   pub each : (i : ℕ) → Used R tile i → TileOf S (tile i)

@@ -5,12 +5,12 @@ use Prim.Native.Nat.{ℕ, _-_, _≤_, _<_}
 use native.Mathlib.Omega.{arith}
 use lib.Dec.{T, T-not}
 use Rattle.geometry.specs.Cases.{lt-cases, T-cases}
-use Rattle.geometry.specs.Picture.{ZERO, SPACE, SOLID, Tile, Has, Limits, Solids, In, Apart, Free, Run, Strip, TileOf, Used, Drawn}
+use Rattle.geometry.specs.Picture.{ZERO, SPACE, SOLID, Tile, Has, Limits, Solids, In, Apart, Free, Run, Strip, SpacePaint, TileOf, Used, Drawn}
 use Rattle.geometry.specs.Plane.{Plane, Is, At, Holds}
 use Rattle.geometry.specs.Strips.{Space, left-side, above}
 use Rattle.geometry.specs.Stitches.{Same, same}
 use Rattle.geometry.specs.Runs.{SameSpan, run-one, SameSides, strip-one}
-use Rattle.geometry.specs.Tiling.{planeOf, solidOf, Kinded, Widest, solidsOf, tile-ext, first-cell, eq→eqb, used-is, is-used, has-holds, holds-has, kind-solid, solid-used, space-is}
+use Rattle.geometry.specs.Tiling.{planeOf, solidOf, Kinded, Widest, solidsOf, tile-ext, space-alike, first-cell, eq→eqb, used-is, is-used, has-holds, holds-has, kind-solid, solid-used, space-is}
 
 module _ (R : ℕ) (tile : ℕ → Tile) (w : Widest R tile) where
   abbrev P : Plane
@@ -93,9 +93,9 @@ module _ (R : ℕ) (tile : ℕ → Tile) (w : Widest R tile) where
     no-higher = blank-no-higher i u;
   }
 
-  strip-record : (v : Tile) → v .kind ≡ SPACE → v .label ≡ ZERO → Strip S (v .left) (v .bottom) (v .right) (v .top)
+  strip-record : (v : Tile) → SpacePaint (v .paint) → Strip S (v .left) (v .bottom) (v .right) (v .top)
       → (i : ℕ) × Used R tile i × (tile i ≡ v)
-  strip-record v k a s =
+  strip-record v k s =
       let p = s .rows (v .bottom) (omega arith) (s .some) in
       let (j, h) = w .strips .covered (v .left) (v .bottom) (omega arith) in
       let u = free-blank j (v .left) (v .bottom) (p .free (v .left) (omega arith) (p .some)) h in
@@ -107,8 +107,8 @@ module _ (R : ℕ) (tile : ℕ → Tile) (w : Widest R tile) where
     where
       go : (j : ℕ) → T (not (solidOf tile j))
           → SameSides (tile j .left) (tile j .bottom) (tile j .right) (tile j .top) (v .left) (v .bottom) (v .right) (v .top) → Kinded (tile j) → tile j ≡ v
-      go j t q (Kinded.space e d) = tile-ext (tile j) v q (e ∙ sym k) (d ∙ sym a)
-      go j t q (Kinded.solid e d) = absurd (T-not (solidOf tile j) t (eq→eqb (tile j .kind) SOLID e))
+      go j t q (Kinded.space e) = tile-ext (tile j) v q (space-alike (tile j .paint) (v .paint) e k)
+      go j t q (Kinded.solid e) = absurd (T-not (solidOf tile j) t (eq→eqb (tile j .paint .kind) SOLID (e .kind)))
 
   widest-apart : Apart S
   widest-apart = record {
@@ -118,16 +118,16 @@ module _ (R : ℕ) (tile : ℕ → Tile) (w : Widest R tile) where
   }
     where
       limits : (k : ℕ) → In S k → Kinded (tile k) → Limits (tile k)
-      limits k u (Kinded.space e d) = absurd (omega (arith, kind-solid R tile k (u .is)))
-      limits k u (Kinded.solid e d) = let f = w .strips .formed k (in-is k u) in omega arith
+      limits k u (Kinded.space e) = absurd (omega (arith, e .kind, kind-solid R tile k (u .is)))
+      limits k u (Kinded.solid e) = let d = e .label in let f = w .strips .formed k (in-is k u) in omega arith
 
   tile-of : (i : ℕ) → Used R tile i → Kinded (tile i) → TileOf S (tile i)
-  tile-of i u (Kinded.space e d) = TileOf.space e d (blank-strip i (space-is R tile i (u .below) e))
-  tile-of i u (Kinded.solid e d) = TileOf.solid i (record { below = u .below; is = eq→eqb (tile i .kind) SOLID e }) refl
+  tile-of i u (Kinded.space e) = TileOf.space e (blank-strip i (space-is R tile i (u .below) (e .kind)))
+  tile-of i u (Kinded.solid e) = TileOf.solid i (record { below = u .below; is = eq→eqb (tile i .paint .kind) SOLID (e .kind) }) refl
 
   record-of : (v : Tile) → TileOf S v → (i : ℕ) × Used R tile i × (tile i ≡ v)
   record-of v (TileOf.solid k u e) = (k, solid-used R tile k (u .below) (u .is), sym e)
-  record-of v (TileOf.space k a s) = strip-record v k a s
+  record-of v (TileOf.space k s) = strip-record v k s
 
   record-once : (i j : ℕ) → Used R tile i → Used R tile j → tile i ≡ tile j → i ≡ j
   record-once i j u v e =

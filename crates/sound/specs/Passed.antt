@@ -53,11 +53,11 @@ not-solid n e = not-T (eqb n SOLID) (λ h. let d = eqb→eq n SOLID h in omega a
 
 kind-kinded : (t : List ℤ) (i : ℕ) → KindRight t i → Kinded (tileOf t i)
 kind-kinded t i k =
-    eq-cases (num t i KIND) SPACE (λ e. space e (k .space e)) (λ n. let e : num t i KIND ≡ SOLID = omega arith in solid e (k .solid e))
+    eq-cases (num t i KIND) SPACE (λ e. space (record { kind = e; label = k .space e })) (λ n. let e : num t i KIND ≡ SOLID = omega arith in solid (record { kind = e; label = k .solid e }))
 
 kinded-kind : (t : List ℤ) (i : ℕ) → Kinded (tileOf t i) → KindRight t i
-kinded-kind t i (space e l) = record { least = omega arith; most = omega arith; space = λ _. l; solid = λ d. absurd (omega arith) }
-kinded-kind t i (solid e l) = record { least = omega arith; most = omega arith; space = λ d. absurd (omega arith); solid = λ _. l }
+kinded-kind t i (space p) = record { least = omega (arith, p .kind); most = omega (arith, p .kind); space = λ _. p .label; solid = λ d. absurd (omega (arith, p .kind)) }
+kinded-kind t i (solid p) = record { least = omega (arith, p .kind); most = omega (arith, p .kind); space = λ d. absurd (omega (arith, p .kind)); solid = λ _. p .label }
 
 -- ---- a table that passes
 

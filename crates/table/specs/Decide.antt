@@ -106,20 +106,24 @@ kindedb-kinded : (t : List ℤ) (i : ℕ) → T (kindedb t i) → Kinded (tileOf
 unfolding kindedb
 kindedb-kinded t i b =
     or-cases (eqb (num t i KIND) SPACE && eqb (num t i LABEL) ZERO) (eqb (num t i KIND) SOLID && ltb ZERO (num t i LABEL)) b
-    (λ h. Kinded.space (eqb→eq (num t i KIND) SPACE (and-l (eqb (num t i KIND) SPACE) (eqb (num t i LABEL) ZERO) h))
-    (eqb→eq (num t i LABEL) ZERO (and-r (eqb (num t i KIND) SPACE) (eqb (num t i LABEL) ZERO) h)))
-    (λ h. Kinded.solid (eqb→eq (num t i KIND) SOLID (and-l (eqb (num t i KIND) SOLID) (ltb ZERO (num t i LABEL)) h))
-    (leb→le (suc ZERO) (num t i LABEL) (and-r (eqb (num t i KIND) SOLID) (ltb ZERO (num t i LABEL)) h)))
+    (λ h. Kinded.space (record {
+      kind = eqb→eq (num t i KIND) SPACE (and-l (eqb (num t i KIND) SPACE) (eqb (num t i LABEL) ZERO) h);
+      label = eqb→eq (num t i LABEL) ZERO (and-r (eqb (num t i KIND) SPACE) (eqb (num t i LABEL) ZERO) h);
+    }))
+    (λ h. Kinded.solid (record {
+      kind = eqb→eq (num t i KIND) SOLID (and-l (eqb (num t i KIND) SOLID) (ltb ZERO (num t i LABEL)) h);
+      label = leb→le (suc ZERO) (num t i LABEL) (and-r (eqb (num t i KIND) SOLID) (ltb ZERO (num t i LABEL)) h);
+    }))
 
 kinded-kindedb : (t : List ℤ) (i : ℕ) → Kinded (tileOf t i) → T (kindedb t i)
 unfolding kindedb
-kinded-kindedb t i (Kinded.space k l) =
+kinded-kindedb t i (Kinded.space p) =
     or-else (eqb (num t i KIND) SPACE && eqb (num t i LABEL) ZERO) (eqb (num t i KIND) SOLID && ltb ZERO (num t i LABEL))
     (λ n. absurd (T-not (eqb (num t i KIND) SPACE && eqb (num t i LABEL) ZERO) n
-    (T-and (eqb (num t i KIND) SPACE) (eqb (num t i LABEL) ZERO) (eq→eqb (num t i KIND) SPACE k) (eq→eqb (num t i LABEL) ZERO l))))
-kinded-kindedb t i (Kinded.solid k l) =
+    (T-and (eqb (num t i KIND) SPACE) (eqb (num t i LABEL) ZERO) (eq→eqb (num t i KIND) SPACE (p .kind)) (eq→eqb (num t i LABEL) ZERO (p .label)))))
+kinded-kindedb t i (Kinded.solid p) =
     or-else (eqb (num t i KIND) SPACE && eqb (num t i LABEL) ZERO) (eqb (num t i KIND) SOLID && ltb ZERO (num t i LABEL))
-    (λ n. T-and (eqb (num t i KIND) SOLID) (ltb ZERO (num t i LABEL)) (eq→eqb (num t i KIND) SOLID k) (le-T (suc ZERO) (num t i LABEL) l))
+    (λ n. T-and (eqb (num t i KIND) SOLID) (ltb ZERO (num t i LABEL)) (eq→eqb (num t i KIND) SOLID (p .kind)) (le-T (suc ZERO) (num t i LABEL) (p .label)))
 
 -- ---- one stitch
 

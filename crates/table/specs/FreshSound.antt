@@ -90,7 +90,7 @@ module _ (t : List ℤ) (few : recordsOf t ≤ 4016) (o : OneTile t) where
   one-widest : Widest (recordsOf t) (tileOf t)
   one-widest =
       record {
-        kinded = only-first (λ i. Kinded (tileOf t i)) (Kinded.space (o .kind) (o .label));
+        kinded = only-first (λ i. Kinded (tileOf t i)) (Kinded.space (record { kind = o .kind; label = o .label }));
         strips =
             record {
               formed = λ i u. let w = whole i u in omega arith;

@@ -4,6 +4,7 @@ use Prim.Native.Nat.{ℕ, _+_, _*_, _/_}
 use lib.IntN.{ℤ, pos}
 use lib.ListN.{length, getD}
 use Rattle.ruler.specs.Ruler.{ruler}
+use Rattle.geometry.specs.declared.Paint.{Paint}
 use Rattle.geometry.specs.Picture.{Tile}
 
 -- the words of a record, and the place of each
@@ -48,7 +49,10 @@ recordsOf t = length t / WIDTH
 unfoldable pub num : List ℤ → ℕ → ℕ → ℕ
 num t i k = ruler (getD t (WIDTH * i + k) (pos 0))
 
--- record i as a tile
+-- what is painted on record i, and the record as a tile
+abbrev pub paintOf : List ℤ → ℕ → Paint
+paintOf t i = record { kind = num t i KIND; label = num t i LABEL }
+
 abbrev pub tileOf : List ℤ → ℕ → Tile
 tileOf t i =
     record {
@@ -56,6 +60,5 @@ tileOf t i =
       bottom = num t i BOTTOM;
       right = num t i RIGHT;
       top = num t i TOP;
-      kind = num t i KIND;
-      label = num t i LABEL;
+      paint = paintOf t i;
     }

@@ -6,9 +6,8 @@ use Prim.Native.Nat.{ℕ}
 use native.Mathlib.Omega.{arith}
 use lib.IntN.{ℤ, pos}
 use Rattle.geometry.specs.Picture.{InPlane}
-use Rattle.table.specs.Sound.{UsedIn}
+use Rattle.table.specs.Sound.{UsedIn, SolidIn}
 use Rattle.table.specs.Forms.{Forms, sound-forms, used-is}
-use Rattle.seek.specs.Meaning.{SolidIn}
 use Rattle.seek.specs.Find.{Finds, finds-one}
 use Rattle.ushanderi.specs.Answers.{DONE, answered}
 use Rattle.ushanderi.specs.declared.answer.Answer.{Answer}

@@ -9,8 +9,8 @@ use lib.IntN.{ℤ, pos}
 use Rattle.geometry.specs.Cases.{eq-cases}
 use Rattle.geometry.specs.Picture.{ZERO, Tile, Has}
 use Rattle.table.specs.Words.{WIDTH, recordsOf, tileOf}
-use Rattle.table.specs.Sound.{capacity, solidsIn}
-use Rattle.seek.specs.Meaning.{SolidIn, Area, RectRight, First}
+use Rattle.table.specs.Sound.{capacity, solidsIn, SolidIn}
+use Rattle.seek.specs.Meaning.{Area, RectRight, First}
 use Rattle.seek.specs.Search.{first-one, free-no-first}
 use Rattle.ushanderi.specs.Answers.{DONE, RECT, LABEL, OCCUPIED, FULL, answered, accepted, refused}
 use Rattle.ushanderi.specs.declared.answer.Answer.{Answer}

@@ -7,7 +7,7 @@ use native.Mathlib.Omega.{arith}
 use lib.IntN.{ℤ, pos}
 use Rattle.geometry.specs.Picture.{InPlane}
 use Rattle.table.specs.Words.{tileOf}
-use Rattle.seek.specs.Meaning.{SolidIn}
+use Rattle.table.specs.Sound.{SolidIn}
 use Rattle.seek.specs.Find.{Finds}
 use Rattle.ushanderi.specs.Answers.{DONE, POINT, SPACE, ROOM, accepted, refused}
 use Rattle.ushanderi.specs.declared.answer.Answer.{Answer}

@@ -13,8 +13,7 @@ use Rattle.geometry.specs.Tiling.{solidsOf, eq→eqb}
 use Rattle.geometry.specs.WidestDrawn.{widest-drawn}
 use Rattle.geometry.specs.DrawnWidest.{same-tiles}
 use Rattle.table.specs.Words.{KIND, recordsOf, num, tileOf}
-use Rattle.table.specs.Sound.{UsedIn, solidAt, solidsIn}
-use Rattle.seek.specs.Meaning.{SolidIn}
+use Rattle.table.specs.Sound.{UsedIn, solidAt, solidsIn, SolidIn}
 use Rattle.ushanderi.specs.Promises.{Fit}
 use Rattle.claims.specs.AgreeChecks.{fit-forms, solid-used}
 

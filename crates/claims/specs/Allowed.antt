@@ -7,8 +7,8 @@ use lib.IntN.{ℤ, pos}
 use lib.ListN.{length}
 use Rattle.geometry.specs.Picture.{ZERO, InPlane}
 use Rattle.table.specs.Words.{KIND, recordsOf, num}
-use Rattle.table.specs.Sound.{capacity, solidsIn}
-use Rattle.seek.specs.Meaning.{SolidIn, Area, RectRight, FreeArea, First, Directed}
+use Rattle.table.specs.Sound.{capacity, solidsIn, SolidIn}
+use Rattle.seek.specs.Meaning.{Area, RectRight, FreeArea, First, Directed}
 use Rattle.seek.specs.Find.{Finds}
 use Rattle.seek.specs.Neighbours.{sideOf, Neighbours}
 use Rattle.seek.specs.Search.{first-one, free-no-first}

@@ -9,10 +9,10 @@ use lib.ListN.{length}
 use Rattle.geometry.specs.Cases.{eq-cases}
 use Rattle.geometry.specs.Picture.{Tile, Has}
 use Rattle.table.specs.Words.{KIND, tileOf}
-use Rattle.table.specs.Sound.{SizeRight}
+use Rattle.table.specs.Sound.{SizeRight, SolidIn}
 use Rattle.table.specs.Fresh.{freshTable}
 use Rattle.table.specs.FreshSound.{OneTile, fresh-one}
-use Rattle.seek.specs.Meaning.{SolidIn, Area, FreeCell}
+use Rattle.seek.specs.Meaning.{Area, FreeCell}
 use Rattle.ushanderi.specs.Edits.{Adds, Removes, Edited}
 use Rattle.ushanderi.specs.Promises.{Fit}
 use Rattle.claims.specs.AgreeChecks.{solid-used}

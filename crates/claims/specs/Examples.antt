@@ -9,8 +9,8 @@ use lib.ListN.{length}
 use Rattle.ruler.specs.Ruler.{ruler}
 use Rattle.geometry.specs.Picture.{ZERO, Tile}
 use Rattle.table.specs.Words.{TR, RT, BL, LB, recordsOf, num, tileOf}
-use Rattle.table.specs.Sound.{SizeRight, UsedIn, capacity, spacesIn}
-use Rattle.seek.specs.Meaning.{SolidIn, Area}
+use Rattle.table.specs.Sound.{SizeRight, UsedIn, capacity, spacesIn, SolidIn}
+use Rattle.seek.specs.Meaning.{Area}
 use Rattle.ushanderi.specs.Answers.{DONE, POINT, OCCUPIED, FULL, SPACE, answered, accepted, refused, nothing}
 use Rattle.ushanderi.specs.declared.answer.Answer.{Answer}
 use Rattle.ushanderi.specs.Edits.{drawn}

@@ -12,11 +12,11 @@ use Rattle.geometry.specs.Cases.{eq-cases}
 use Rattle.geometry.specs.Picture.{ZERO, InPlane, Tile, Has}
 use Rattle.table.specs.Words
 use Rattle.table.specs.Words.{WIDTH, LEFT, BOTTOM, RIGHT, TOP, TR, RT, BL, LB, recordsOf, num, tileOf}
-use Rattle.table.specs.Sound.{SizeRight, UsedIn, Names, capacity, solidsIn, spacesIn}
+use Rattle.table.specs.Sound.{SizeRight, UsedIn, Names, capacity, solidsIn, spacesIn, SolidIn}
 use Rattle.table.specs.Fresh.{freshTable}
 use Rattle.table.specs.FreshSound.{fresh-length, fresh-no-solid}
 use Rattle.table.specs.Examples.{one, abc, one-spaces, one-solids, abc-spaces, abc-solids, fresh-sound-20}
-use Rattle.seek.specs.Meaning.{SolidIn, Area, InArea, RectRight, Before, higher, same-row, FreeCell, FreeArea, First, tree, none, more, Directed}
+use Rattle.seek.specs.Meaning.{Area, InArea, RectRight, Before, higher, same-row, FreeCell, FreeArea, First, tree, none, more, Directed}
 use Rattle.seek.specs.Find.{Finds}
 use Rattle.seek.specs.Neighbours.{sideOf, Neighbours}
 use Rattle.seek.specs.Once.{times, times-here, times-other}

@@ -15,9 +15,9 @@ use Rattle.geometry.specs.Count.{count}
 use Rattle.geometry.specs.Picture.{ZERO, SPACE, SOLID, Tile, Has}
 use Rattle.geometry.specs.Tiling.{Kinded, eq→eqb}
 use Rattle.table.specs.Words.{KIND, recordsOf, num, tileOf}
-use Rattle.table.specs.Sound.{capacity, solidAt, spaceAt, solidsIn}
+use Rattle.table.specs.Sound.{capacity, solidAt, spaceAt, solidsIn, SolidIn}
 use Rattle.table.specs.Forms.{sound-three}
-use Rattle.seek.specs.Meaning.{SolidIn, Area, RectRight, InArea, FreeArea}
+use Rattle.seek.specs.Meaning.{Area, RectRight, InArea, FreeArea}
 use Rattle.ushanderi.specs.Answers.{DONE, OCCUPIED, FULL, ROOM}
 use Rattle.ushanderi.specs.declared.answer.Answer.{Answer}
 use Rattle.ushanderi.specs.Edits.{NoRoom}

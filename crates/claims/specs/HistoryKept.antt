@@ -12,11 +12,11 @@ use Rattle.geometry.specs.Runs.{SameSolids, same-turned}
 use Rattle.geometry.specs.Tiling.{one-holder}
 use Rattle.geometry.specs.DrawnWidest.{drawn-count, same-tile-of}
 use Rattle.table.specs.Words.{LEFT, BOTTOM, RIGHT, TOP, KIND, recordsOf, num, tileOf}
-use Rattle.table.specs.Sound.{SizeRight, SoundFor, solidsIn}
+use Rattle.table.specs.Sound.{SizeRight, SoundFor, solidsIn, SolidIn}
 use Rattle.table.specs.Fresh.{freshTable}
 use Rattle.table.specs.FreshSound.{OneTile, fresh-one}
 use Rattle.table.specs.Forms.{sound-three}
-use Rattle.seek.specs.Meaning.{SolidIn, Area}
+use Rattle.seek.specs.Meaning.{Area}
 use Rattle.layout.specs.Bytes.{savedAt}
 use Rattle.ushanderi.specs.Edits.{drawn}
 use Rattle.ushanderi.specs.Promises.{Fit, CreateDone, DeleteDone, areaIn, Built}

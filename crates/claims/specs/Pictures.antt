@@ -10,8 +10,7 @@ use Rattle.geometry.specs.Count.{inject}
 use Rattle.geometry.specs.Picture.{FREE, SPACE}
 use Rattle.geometry.specs.Tiling.{eq→eqb}
 use Rattle.table.specs.Words.{KIND, recordsOf, num, tileOf}
-use Rattle.table.specs.Sound.{UsedIn, spaceAt, spacesIn}
-use Rattle.seek.specs.Meaning.{SolidIn}
+use Rattle.table.specs.Sound.{UsedIn, spaceAt, spacesIn, SolidIn}
 use Rattle.ushanderi.specs.Promises.{Fit}
 use Rattle.claims.specs.AgreePicture.{SamePicture, picture-turned, tile-once, space-agrees}
 

@@ -9,8 +9,8 @@ use lib.Seq.{take-at}
 use Rattle.geometry.specs.Picture.{ZERO, Tile, Has, Limits}
 use Rattle.geometry.specs.Tiling.{tile-ext}
 use Rattle.table.specs.Words.{tileOf}
-use Rattle.table.specs.Sound.{solidsIn}
-use Rattle.seek.specs.Meaning.{SolidIn, Area, InArea, RectRight, Lists}
+use Rattle.table.specs.Sound.{solidsIn, SolidIn}
+use Rattle.seek.specs.Meaning.{Area, InArea, RectRight, Lists}
 use Rattle.layout.specs.declared.bytes.Saved.{Saved}
 use Rattle.layout.specs.Bytes.{fileBytes, savedAt}
 use Rattle.layout.specs.BytesLaws.{file-length, saved-file}

@@ -12,11 +12,11 @@ use Rattle.geometry.specs.Cases.{lt-cases}
 use Rattle.geometry.specs.Picture.{InPlane, Tile, Has}
 use Rattle.geometry.specs.Tiling.{one-holder}
 use Rattle.table.specs.Words.{WIDTH, recordsOf, tileOf}
-use Rattle.table.specs.Sound.{SizeRight, capacity, solidsIn}
+use Rattle.table.specs.Sound.{SizeRight, capacity, solidsIn, SolidIn}
 use Rattle.table.specs.View.{Places, Slice, IsPart}
 use Rattle.table.specs.Fresh.{freshTable}
 use Rattle.table.specs.FreshSound.{fresh-length}
-use Rattle.seek.specs.Meaning.{SolidIn, Area, InArea, RectRight, FreeArea, Directed}
+use Rattle.seek.specs.Meaning.{Area, InArea, RectRight, FreeArea, Directed}
 use Rattle.seek.specs.Find.{Finds}
 use Rattle.seek.specs.Neighbours.{sideOf, Neighbours}
 use Rattle.ushanderi.specs.Answers.{DONE, SIZE, UNSOUND, RECT, SHORT, answered, accepted, nothing}

@@ -12,10 +12,10 @@ use Rattle.geometry.specs.Picture.{SOLID, Tile}
 use Rattle.geometry.specs.Turns.{top}
 use Rattle.geometry.specs.Tiling.{tile-ext, eq→eqb}
 use Rattle.table.specs.Words.{LEFT, BOTTOM, RIGHT, TOP, KIND, recordsOf, num, tileOf}
-use Rattle.table.specs.Sound.{UsedIn, solidAt}
+use Rattle.table.specs.Sound.{UsedIn, solidAt, SolidIn}
 use Rattle.table.specs.Forms.{is-used, used-is}
 use Rattle.table.specs.Decide.{allBelow, all-below, or-cases, le-T, usedb, hasb, hasb-has, has-hasb}
-use Rattle.seek.specs.Meaning.{SolidIn, Area, Lists, Over, Meets, Root, Hangs}
+use Rattle.seek.specs.Meaning.{Area, Lists, Over, Meets, Root, Hangs}
 use Rattle.seek.specs.Find.{Finds}
 use Rattle.seek.specs.Neighbours
 use Rattle.seek.specs.Neighbours.{Touches, Neighbour, Neighbours}

@@ -11,9 +11,9 @@ use Rattle.geometry.specs.Picture.{LOW, HIGH, SOLID}
 use Rattle.geometry.specs.Plane.{Is, Formed}
 use Rattle.geometry.specs.Tiling.{eq→eqb}
 use Rattle.table.specs.Words.{LEFT, TOP, KIND, recordsOf, num}
-use Rattle.table.specs.Sound.{SizeRight, solidAt}
+use Rattle.table.specs.Sound.{SizeRight, solidAt, SolidIn}
 use Rattle.table.specs.Forms.{Forms, planeIn, used-is}
-use Rattle.seek.specs.Meaning.{SolidIn, Lists}
+use Rattle.seek.specs.Meaning.{Lists}
 use Rattle.layout.specs.Order.{Comes}
 use Rattle.sorting.specs.Sorting.{Sorts}
 use Rattle.sorting.specs.Keys.{RECORDS, recordOf, keysOf, Collects, key-at, key-before, key-of}

@@ -13,9 +13,9 @@ use Rattle.geometry.specs.Count.{count, inject, pigeonhole}
 use Rattle.geometry.specs.Picture.{SOLID}
 use Rattle.geometry.specs.Tiling.{eq→eqb}
 use Rattle.table.specs.Words.{KIND, recordsOf, num}
-use Rattle.table.specs.Sound.{SizeRight, solidAt, solidsIn}
+use Rattle.table.specs.Sound.{SizeRight, solidAt, solidsIn, SolidIn}
 use Rattle.table.specs.Forms.{Forms}
-use Rattle.seek.specs.Meaning.{SolidIn, Lists}
+use Rattle.seek.specs.Meaning.{Lists}
 use Rattle.seek.specs.Lists.{lists-one}
 use Rattle.layout.specs.Bytes.{fileBytes}
 use Rattle.layout.specs.Order.{Comes, higher, level, savedOf, Saves}

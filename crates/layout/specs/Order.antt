@@ -5,7 +5,8 @@ use Prim.Native.Nat.{ℕ, _*_, _<_}
 use lib.IntN.{ℤ}
 use lib.ListN.{length, drop}
 use Rattle.table.specs.Words.{LEFT, BOTTOM, RIGHT, TOP, LABEL, num}
-use Rattle.seek.specs.Meaning.{SolidIn, Lists}
+use Rattle.table.specs.Sound.{SolidIn}
+use Rattle.seek.specs.Meaning.{Lists}
 use Rattle.layout.specs.declared.bytes.Saved.{Saved}
 use Rattle.layout.specs.Bytes.{fileBytes}
 

@@ -7,8 +7,9 @@ use native.Mathlib.Omega.{arith}
 use lib.IntN.{ℤ}
 use lib.ListN.{length, getD, length-map}
 use Rattle.table.specs.Words.{LABEL, num}
+use Rattle.table.specs.Sound.{SolidIn}
 use Rattle.table.specs.Forms.{Forms}
-use Rattle.seek.specs.Meaning.{SolidIn, Lists}
+use Rattle.seek.specs.Meaning.{Lists}
 use Rattle.layout.specs.declared.bytes.Saved.{Saved}
 use Rattle.layout.specs.Bytes.{SavedFits, AllFit}
 use Rattle.layout.specs.Order.{Comes, savedOf}

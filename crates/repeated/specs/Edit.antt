@@ -10,9 +10,9 @@ use Rattle.geometry.specs.Count.{count, count-mono}
 use Rattle.geometry.specs.Picture.{ZERO, SOLID}
 use Rattle.geometry.specs.Tiling.{eq→eqb}
 use Rattle.table.specs.Words.{WIDTH, KIND, recordsOf, num}
-use Rattle.table.specs.Sound.{UsedIn, capacity, solidAt, solidsIn}
+use Rattle.table.specs.Sound.{UsedIn, capacity, solidAt, solidsIn, SolidIn}
 use Rattle.seek.specs.Meaning.{RectRight, FreeArea, First}
-use Rattle.edit.specs.Tidy.{Solid, SameTile, same-on}
+use Rattle.edit.specs.Tidy.{SameTile, same-on}
 use Rattle.edit.specs.Create.{Rect, Clear, CanLay, Creates, creates-new}
 use Rattle.edit.specs.Delete.{CanShrink, Deletes}
 use Rattle.repeated.specs.Entry.{Fit, Unfit}
@@ -38,9 +38,9 @@ pub data MayEdit (t : List ℤ) (l b r p label : ℕ) (number : ℕ) : Type 0 wh
 pub record Edited (t t′ : List ℤ) (l b r p label k : ℕ) : Type 0 where
   pub can : CanEdit t′ l b r p label
   pub size : length t′ ≡ length t
-  pub on : (i : ℕ) → Solid t i → Solid t′ i × SameTile t t′ i
-  pub back : (i : ℕ) → Solid t′ i → Solid t i
-  pub new : Solid t k → ⊥
+  pub on : (i : ℕ) → SolidIn t i → SolidIn t′ i × SameTile t t′ i
+  pub back : (i : ℕ) → SolidIn t′ i → SolidIn t i
+  pub new : SolidIn t k → ⊥
 
 pub free-clear : (t : List ℤ) (l b r p : ℕ) → FreeArea t (record { left = l; bottom = b; right = r; top = p }) → Clear t l b r p
 free-clear t l b r p f i x y s h q = f x y (omega arith) i (record { below = s .below; kind = s .kind }) h
@@ -79,7 +79,7 @@ can-shrink t t′ k l b r p label e c = record {
 
 -- as many solids, and the same cells free
 again : (t t′ : List ℤ) (l b r p label : ℕ) → CanEdit t l b r p label → Fit t′ → length t′ ≡ length t
-    → ((i : ℕ) → Solid t i → Solid t′ i × SameTile t t′ i) → ((i : ℕ) → Solid t′ i → Solid t i) → CanEdit t′ l b r p label
+    → ((i : ℕ) → SolidIn t i → SolidIn t′ i × SameTile t t′ i) → ((i : ℕ) → SolidIn t′ i → SolidIn t i) → CanEdit t′ l b r p label
 again t t′ l b r p label c f e on back = record {
   fit = f;
   rect = c .rect;
@@ -112,13 +112,13 @@ edited-once t t₁ t₂ l b r p label k e c d = record {
     size : length t₂ ≡ length t
     size = d .size ∙ c .adds .size
 
-    on : (i : ℕ) → Solid t i → Solid t₂ i × SameTile t t₂ i
+    on : (i : ℕ) → SolidIn t i → SolidIn t₂ i × SameTile t t₂ i
     on i s =
         let m = c .adds .on i s in
         let (s₂, m₂) = d .on i (m .solid) (m .other) in
         (s₂, same-on t t₁ t₂ i (m .tile) m₂)
 
-    back : (i : ℕ) → Solid t₂ i → Solid t i
+    back : (i : ℕ) → SolidIn t₂ i → SolidIn t i
     back i s = let (s₁, n) = d .back i s in c .adds .back i s₁ n
 
 pub edited-again : (t t₁ t₂ : List ℤ) (l b r p label j k : ℕ) → Edited t t₁ l b r p label j → Edited t₁ t₂ l b r p label k → Edited t t₂ l b r p label k

@@ -7,11 +7,7 @@ use lib.IntN.{ℤ}
 use lib.ListN.{length, getD}
 use Rattle.geometry.specs.Picture.{LOW, HIGH, SOLID, Has}
 use Rattle.table.specs.Words.{LEFT, BOTTOM, RIGHT, TOP, KIND, recordsOf, num, tileOf}
-use Rattle.table.specs.Sound.{UsedIn}
-
-pub record SolidIn (t : List ℤ) (i : ℕ) : Type 0 where
-  pub below : i < recordsOf t
-  pub kind : num t i KIND ≡ SOLID
+use Rattle.table.specs.Sound.{UsedIn, SolidIn}
 
 -- ---- areas
 

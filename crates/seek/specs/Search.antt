@@ -11,14 +11,14 @@ use Rattle.geometry.specs.Plane.{Holds}
 use Rattle.geometry.specs.Strips.{Space}
 use Rattle.geometry.specs.Tiling.{neq→eqb, kind-solid}
 use Rattle.table.specs.Words.{BOTTOM, RIGHT, KIND, recordsOf, num, tileOf}
-use Rattle.table.specs.Sound.{UsedIn, solidAt}
+use Rattle.table.specs.Sound.{UsedIn, solidAt, SolidIn}
 use Rattle.table.specs.Forms.{planeIn, Forms, used-is, has-holds}
 use Rattle.seek.specs.declared.area.Seen.{Seen}
 use Rattle.seek.specs.declared.area.Seen.the-variants.{Nothing, Solid}
 use Rattle.seek.specs.declared.area.Row.{Row}
 use Rattle.seek.specs.declared.area.Row.the-variants.{Clear, Stopped}
 use Rattle.seek.specs.Find.{Finds, finds-one}
-use Rattle.seek.specs.Meaning.{SolidIn, Area, InArea, Before, higher, same-row, FreeCell, FreeArea, First}
+use Rattle.seek.specs.Meaning.{Area, InArea, Before, higher, same-row, FreeCell, FreeArea, First}
 
 -- ---- the answer
 

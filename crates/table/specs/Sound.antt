@@ -61,6 +61,15 @@ pub record Sound (t : List ℤ) : Type 0 where
   pub solids : Solids
   pub for : SoundFor t solids
 
+-- record i is a solid; it is space
+pub record SolidIn (t : List ℤ) (i : ℕ) : Type 0 where
+  pub below : i < recordsOf t
+  pub kind : num t i KIND ≡ SOLID
+
+pub record SpaceIn (t : List ℤ) (i : ℕ) : Type 0 where
+  pub below : i < recordsOf t
+  pub kind : num t i KIND ≡ SPACE
+
 -- the records of kind solid, those of kind space, and how many there are
 abbrev pub solidAt : List ℤ → ℕ → Bool
 solidAt t i = eqb (num t i KIND) SOLID

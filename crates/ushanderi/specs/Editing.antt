@@ -17,9 +17,9 @@ use Rattle.geometry.specs.Picture.{ZERO, SOLID, Tile}
 use Rattle.geometry.specs.Tiling.{Kinded, tile-ext}
 use Rattle.table.specs.Words.{KIND, recordsOf, num, tileOf}
 use Rattle.table.specs.Words
-use Rattle.table.specs.Sound.{UsedIn, capacity, solidAt, solidsIn}
+use Rattle.table.specs.Sound.{UsedIn, capacity, solidAt, solidsIn, SolidIn}
 use Rattle.table.specs.Forms.{Forms, forms-sound}
-use Rattle.seek.specs.Meaning.{SolidIn, Area, FreeArea, First}
+use Rattle.seek.specs.Meaning.{Area, FreeArea, First}
 use Rattle.seek.specs.Find.{Finds}
 use Rattle.seek.specs.Search.{Searches}
 use Rattle.seek.specs.declared.area.Seen.{Seen}

@@ -7,8 +7,8 @@ use lib.IntN.{ℤ}
 use lib.ListN.{length}
 use Rattle.geometry.specs.Picture.{ZERO, FREE, SPACE, SOLID, Tile}
 use Rattle.table.specs.Words.{KIND, LABEL, recordsOf, num, tileOf}
-use Rattle.table.specs.Sound.{Sound}
-use Rattle.seek.specs.Meaning.{SolidIn, Area}
+use Rattle.table.specs.Sound.{Sound, SolidIn}
+use Rattle.seek.specs.Meaning.{Area}
 
 -- the solid that a create draws
 abbrev pub drawn : Area → ℕ → Tile

@@ -8,10 +8,10 @@ use lib.ListN.{length, drop}
 use denote.Ref.{now}
 use Rattle.geometry.specs.Picture.{ZERO, InPlane}
 use Rattle.table.specs.Words.{recordsOf}
-use Rattle.table.specs.Sound.{SizeRight, Sound, capacity, solidsIn}
+use Rattle.table.specs.Sound.{SizeRight, Sound, capacity, solidsIn, SolidIn}
 use Rattle.table.specs.Fresh.{freshTable}
 use Rattle.table.specs.View.{Places, Slice, IsPart}
-use Rattle.seek.specs.Meaning.{SolidIn, Area, RectRight, FreeArea, First, Lists, Directed}
+use Rattle.seek.specs.Meaning.{Area, RectRight, FreeArea, First, Lists, Directed}
 use Rattle.seek.specs.Find.{Finds}
 use Rattle.seek.specs.Neighbours.{IsSide, sideOf, Neighbours}
 use Rattle.layout.specs.Bytes.{savedAt}

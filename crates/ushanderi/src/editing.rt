@@ -1,8 +1,7 @@
 // The calls that change a plane: create and delete. Each decides first, which only reads, and then acts.
 ghost use Prim.Native.Nat.{_<_, _^_};
 ghost use Rattle.ruler.specs.Ruler.{ruler};
-ghost use Rattle.table.specs.Sound.{UsedIn};
-ghost use Rattle.seek.specs.Meaning.{SolidIn};
+ghost use Rattle.table.specs.Sound.{UsedIn, SolidIn};
 ghost use Rattle.seek.specs.Enumerate.{areaOf};
 ghost use Rattle.ushanderi.specs.Promises.{Fit, CreateAllows, CreateDone, CreateSays, DeleteSays};
 ghost use Rattle.ushanderi.specs.Reading.{rulerArea};

@@ -1,7 +1,8 @@
 -- `moves::wall_of` meets its contract. Assumes nothing.
 use borrow.Author.Needs.{needs}
 use native.Mathlib.Omega.{arith}
-use Rattle.edit.specs.Tidy.{SpaceIn, forms-tidy}
+use Rattle.table.specs.Sound.{SpaceIn}
+use Rattle.edit.specs.Tidy.{forms-tidy}
 use Rattle.edit.specs.Walls.{wall-rim, wall-cell, wall-found}
 use Rattle.edit.proofs.moves.wall_of.Statement.{statement}
 use Rattle.edit.proofs.moves.wall_of.Tie as tie

@@ -1,5 +1,5 @@
 -- The calls that change a plane: what a decision and an act of a create or a delete give, and how the edits of a sound table give the promises. Assumes nothing.
-use mathlib.Core.Path.{_≡_, sym, ap, _∙_, subst, subst₂}
+use mathlib.Core.Path.{_≡_, sym, ap, _∙_, subst₂}
 use mathlib.Core.Logic.{_≢_}
 use mathlib.Core.List.{List}
 use Prim.Native.Nat.{ℕ, _+_, _≤_, _<_, _^_}
@@ -19,11 +19,8 @@ use Rattle.table.specs.Words.{KIND, recordsOf, num, tileOf}
 use Rattle.table.specs.Words
 use Rattle.table.specs.Sound.{UsedIn, capacity, solidAt, solidsIn}
 use Rattle.table.specs.Forms.{Forms, forms-sound}
-use Rattle.seek.specs.Meaning.{SolidIn, Area, FreeArea, First}
+use Rattle.seek.specs.Meaning.{SolidIn, Area}
 use Rattle.seek.specs.Find.{Finds}
-use Rattle.seek.specs.Search.{Searches}
-use Rattle.seek.specs.declared.area.Seen.{Seen}
-use Rattle.seek.specs.declared.area.Seen.the-variants as Seens
 use Rattle.edit.specs.Tidy.{SameTile}
 use Rattle.edit.specs.Create.{CanLay, Creates, creates-new}
 use Rattle.edit.specs.Delete.{Deletes, CanShrink, shrink-room}
@@ -71,19 +68,6 @@ refusal t A label a (CreateRefuses.occupied f r l x y i h e) = record { number =
 refusal t A label a (CreateRefuses.full f r l h c e) = record { number = FULL; value = 0; is = e; some = omega arith; low = omega arith }
 
 -- ---- create
-
--- what area search saw
-pub searches-free : (t : List ℤ) (A : Area) (s : Seen) → Searches t A s → s ≡ Seens.Nothing → FreeArea t A
-searches-free t A s (Searches.nothing h) e = h
-searches-free t A s (Searches.solid h) e = absurd (let z : _≡_ {A = ℕ} 0 1 = cc in omega arith)
-
-pub searches-met : (t : List ℤ) (A : Area) (s : Seen) (i x y : ℕ) → Searches t A s → s ≡ Seens.Solid i x y → First t A x y i
-searches-met t A s i x y (Searches.nothing h) e = absurd (let z : _≡_ {A = ℕ} 0 1 = cc in omega arith)
-searches-met t A s i x y (Searches.solid {i = j} {x = u} {y = v} h) e =
-    let a : j ≡ i = cc in
-    let b : u ≡ x = cc in
-    let d : v ≡ y = cc in
-    subst (λ j. First t A x y j) a (subst (λ u. First t A u y j) b (subst (λ v. First t A u v j) d h))
 
 pub create-same : {t t′ : List ℤ} {A B : Area} {l m : ℕ} {a : Answer} → A ≡ B → l ≡ m → CreateSays t A l t′ a → CreateSays t B m t′ a
 create-same {t} {t′} {A} {B} {l} {m} {a} p q s = subst₂ (λ A l. CreateSays t A l t′ a) p q s

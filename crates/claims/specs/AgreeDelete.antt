@@ -7,11 +7,11 @@ use native.Mathlib.Omega.{arith}
 use lib.IntN.{ℤ, pos}
 use Rattle.geometry.specs.Picture.{InPlane}
 use Rattle.table.specs.Words.{tileOf}
-use Rattle.table.specs.Sound.{SolidIn}
+use Rattle.table.specs.Sound.{SolidIn, SpaceIn}
 use Rattle.seek.specs.Find.{Finds}
 use Rattle.ushanderi.specs.Answers.{DONE, POINT, SPACE, ROOM, accepted, refused}
 use Rattle.ushanderi.specs.declared.answer.Answer.{Answer}
-use Rattle.ushanderi.specs.Edits.{Removes, labelIn, SpaceIn, NoRoom}
+use Rattle.ushanderi.specs.Edits.{Removes, labelIn, NoRoom}
 use Rattle.ushanderi.specs.Promises.{Unfit, Fit, DeleteRefuses, DeleteDone, DeleteSays}
 use Rattle.claims.specs.AgreeChecks.{Then, stops, goes, same, join, NotFit, not-fit, unfit-agrees, fit-finds-one, finds-inside, number-is, not-done, unfit-not-done}
 use Rattle.claims.specs.AgreePicture.{SamePicture}

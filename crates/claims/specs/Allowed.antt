@@ -7,7 +7,7 @@ use lib.IntN.{ℤ, pos}
 use lib.ListN.{length}
 use Rattle.geometry.specs.Picture.{ZERO, InPlane}
 use Rattle.table.specs.Words.{KIND, recordsOf, num}
-use Rattle.table.specs.Sound.{capacity, solidsIn, SolidIn}
+use Rattle.table.specs.Sound.{capacity, solidsIn, SolidIn, SpaceIn}
 use Rattle.seek.specs.Meaning.{Area, RectRight, FreeArea, First, Directed}
 use Rattle.seek.specs.Find.{Finds}
 use Rattle.seek.specs.Neighbours.{sideOf, Neighbours}
@@ -16,7 +16,7 @@ use Rattle.layout.specs.Order.{Saves}
 use Rattle.layout.specs.OneOrder.{order-length, saves-bytes}
 use Rattle.ushanderi.specs.Answers.{OCCUPIED, FULL, POINT, SPACE, answered, accepted, refused, nothing}
 use Rattle.ushanderi.specs.declared.answer.Answer.{Answer}
-use Rattle.ushanderi.specs.Edits.{labelIn, SpaceIn}
+use Rattle.ushanderi.specs.Edits.{labelIn}
 use Rattle.ushanderi.specs.Promises.{Fit, FindSays, listed, NeighboursSays, SearchSays, EnumerateSays, CreateRefuses, CreateAllows, CreateSays, DeleteRefuses, DeleteDone, DeleteSays, SaveSays}
 use Rattle.claims.specs.AgreeChecks.{not-fit, fit-forms, fit-finds-one, finds-inside}
 use Rattle.claims.specs.AgreeCreate.{Created}

@@ -1,4 +1,5 @@
--- What the promises of the calls that write say, by the answer's number: a refusal leaves the table, DONE is the one case of that name. Assumes nothing.
+-- What the promises of fresh and load say, by the answer's number: a refusal leaves the table, DONE is the one case of that name; and that every answer of
+-- a call that writes is a step. Assumes nothing.
 use mathlib.Core.Path.{_≡_, sym, _∙_, subst}
 use mathlib.Core.Logic.{_≢_, _⊎_, inl, inr, ⊎-elim}
 use mathlib.Core.List.{List}
@@ -71,11 +72,11 @@ fresh-steps t t′ a c S = go c
 
 pub create-steps : (t : List ℤ) (A : Area) (label : ℕ) (t′ : List ℤ) (a : Answer) → label < 2 ^ 32 → CreateSays t A label t′ a → (S : List Tile)
     → (S′ : List Tile) × Step t S t′ S′
-create-steps t A label t′ a b (CreateSays.refuses r w) S = (S, subst (λ t′. Step t S t′ S) (sym w) (Step.create-refused r))
+create-steps t A label t′ a b (CreateSays.refuses r w) S = subst (λ t′. (S′ : List Tile) × Step t S t′ S′) (sym w) (_, Step.create-refused r)
 create-steps t A label t′ a b (CreateSays.done k d e) S = (_, Step.create b d)
 
 pub delete-steps : (t : List ℤ) (x y : ℕ) (t′ : List ℤ) (a : Answer) → DeleteSays t x y t′ a → (S : List Tile) → (S′ : List Tile) × Step t S t′ S′
-delete-steps t x y t′ a (DeleteSays.refuses r w) S = (S, subst (λ t′. Step t S t′ S) (sym w) (Step.delete-refused r))
+delete-steps t x y t′ a (DeleteSays.refuses r w) S = subst (λ t′. (S′ : List Tile) × Step t S t′ S′) (sym w) (_, Step.delete-refused r)
 delete-steps t x y t′ a (DeleteSays.done i d e) S = (_, Step.delete d)
 
 pub load-steps : (t : List ℤ) (bs : List ℕ) (t′ : List ℤ) (a : Answer) → LoadSays t bs t′ a → (S : List Tile) → (S′ : List Tile) × Step t S t′ S′

@@ -43,7 +43,7 @@ pub record Edited (t t′ : List ℤ) (l b r p label k : ℕ) : Type 0 where
   pub new : SolidIn t k → ⊥
 
 pub free-clear : (t : List ℤ) (l b r p : ℕ) → FreeArea t (record { left = l; bottom = b; right = r; top = p }) → Clear t l b r p
-free-clear t l b r p f i x y s h q = f x y (omega arith) i (record { below = s .below; kind = s .kind }) h
+free-clear t l b r p f i x y s h q = f x y (omega arith) i s h
 
 pub right-rect : (l b r p : ℕ) → RectRight (record { left = l; bottom = b; right = r; top = p }) → Rect l b r p
 right-rect l b r p h = omega arith
@@ -57,18 +57,18 @@ can-free t l b r p label n (occupied f x y k h d) e = absurd (omega arith)
 can-free t l b r p label n (full f h d) e = absurd (omega arith)
 can-free t l b r p label n (free c d) e = c
 
-pub can-lay : (t : List ℤ) (from l b r p label : ℕ) → CanEdit t l b r p label → UsedIn t from → CanLay t from l b r p label
+pub can-lay : (t : List ℤ) (from l b r p label : ℕ) → CanEdit t l b r p label → UsedIn t from → CanLay t from l b r p (inkOf label)
 can-lay t from l b r p label c u = record {
   forms = c .fit .forms;
   size = c .fit .size;
   from = u;
   rect = c .rect;
   clear = c .clear;
-  label = c .named;
+  paint = record { kind = refl; label = c .named };
   word = c .word;
 }
 
-pub can-shrink : (t t′ : List ℤ) (k l b r p label : ℕ) → CanEdit t l b r p label → Creates t t′ k l b r p label → CanShrink t′ k
+pub can-shrink : (t t′ : List ℤ) (k l b r p label : ℕ) → CanEdit t l b r p label → Creates t t′ k l b r p (inkOf label) → CanShrink t′ k
 can-shrink t t′ k l b r p label e c = record {
   forms = c .forms;
   size = let s = e .fit .size in omega (arith, c .adds .size);

@@ -12,9 +12,6 @@ use Rattle.table.specs.Sound.{UsedIn}
 use Rattle.table.specs.Forms.{Forms}
 use Rattle.seek.specs.Find.{finds-one}
 use Rattle.seek.specs.Meaning.{Area, FreeArea, First}
-use Rattle.seek.specs.Search.{Searches, nothing, solid}
-use Rattle.seek.specs.declared.area.Seen.{Seen}
-use Rattle.seek.specs.declared.area.Seen.the-variants.{Nothing, Solid}
 use Rattle.seek.specs.Neighbours.{sideOf}
 use Rattle.seek.specs.Sides.{neighbours-one}
 use Rattle.seek.specs.Listing.{Written, Lists, Counts, counts-one}
@@ -133,18 +130,6 @@ saves-twice t old mid new m n a b = record {
         ap (drop n) (a .writes) ∙ drop-front (fileBytes (map (savedOf t) (a .solids))) (drop m old) n whole ∙ ap (λ k. drop k old) e
 
 -- ---- area search: what its answer says, by its case
-
-pub seen-nothing : (t : List ℤ) (A : Area) (r : Seen) → Searches t A r → r ≡ Nothing → FreeArea t A
-seen-nothing t A r (nothing f) e = f
-seen-nothing t A r (solid f) e = absurd (let z : _≡_ {A = ℕ} 0 1 = cc in omega arith)
-
-pub seen-solid : (t : List ℤ) (A : Area) (r : Seen) (i x y : ℕ) → Searches t A r → r ≡ Solid i x y → First t A x y i
-seen-solid t A r i x y (nothing f) e = absurd (let z : _≡_ {A = ℕ} 0 1 = cc in omega arith)
-seen-solid t A r i x y (solid {i = j} {x = u} {y = v} f) e =
-    let a : j ≡ i = cc in
-    let b : u ≡ x = cc in
-    let d : v ≡ y = cc in
-    subst (λ j. First t A x y j) a (subst (λ u. First t A u y j) b (subst (λ v. First t A u v j) d f))
 
 pub sees-free : (t : List ℤ) (A : Area) (k : ℕ) → Sees t A k → recordsOf t ≤ k → FreeArea t A
 sees-free t A k (Sees.nothing f e) h = f

@@ -158,3 +158,16 @@ first-one t f A x y i x′ y′ i′ p q =
 
 pub free-no-first : (t : List ℤ) (A : Area) (x y i : ℕ) → FreeArea t A → First t A x y i → ⊥
 free-no-first t A x y i h f = h x y (f .inside) i (f .solid) (f .has)
+
+-- what area search saw
+pub searches-free : (t : List ℤ) (A : Area) (s : Seen) → Searches t A s → s ≡ Nothing → FreeArea t A
+searches-free t A s (nothing h) e = h
+searches-free t A s (solid h) e = absurd (let z : _≡_ {A = ℕ} 0 1 = cc in omega arith)
+
+pub searches-met : (t : List ℤ) (A : Area) (s : Seen) (i x y : ℕ) → Searches t A s → s ≡ Solid i x y → First t A x y i
+searches-met t A s i x y (nothing h) e = absurd (let z : _≡_ {A = ℕ} 0 1 = cc in omega arith)
+searches-met t A s i x y (solid {i = j} {x = u} {y = v} h) e =
+    let a : j ≡ i = cc in
+    let b : u ≡ x = cc in
+    let d : v ≡ y = cc in
+    subst (λ j. First t A x y j) a (subst (λ u. First t A u y j) b (subst (λ v. First t A u v j) d h))

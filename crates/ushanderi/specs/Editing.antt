@@ -1,5 +1,5 @@
 -- The calls that change a plane: what a decision and an act of a create or a delete give, and how the edits of a sound table give the promises. Assumes nothing.
-use mathlib.Core.Path.{_≡_, sym, ap, _∙_, subst, subst₂}
+use mathlib.Core.Path.{_≡_, refl, sym, ap, _∙_, subst₂}
 use mathlib.Core.Logic.{_≢_}
 use mathlib.Core.List.{List}
 use Prim.Native.Nat.{ℕ, _+_, _≤_, _<_, _^_}
@@ -17,18 +17,15 @@ use Rattle.geometry.specs.Picture.{ZERO, SOLID, Tile}
 use Rattle.geometry.specs.Tiling.{Kinded, tile-ext}
 use Rattle.table.specs.Words.{KIND, recordsOf, num, tileOf}
 use Rattle.table.specs.Words
-use Rattle.table.specs.Sound.{UsedIn, capacity, solidAt, solidsIn, SolidIn}
+use Rattle.table.specs.Sound.{UsedIn, capacity, solidAt, solidsIn, SolidIn, SpaceIn}
 use Rattle.table.specs.Forms.{Forms, forms-sound}
-use Rattle.seek.specs.Meaning.{Area, FreeArea, First}
+use Rattle.seek.specs.Meaning.{Area}
 use Rattle.seek.specs.Find.{Finds}
-use Rattle.seek.specs.Search.{Searches}
-use Rattle.seek.specs.declared.area.Seen.{Seen}
-use Rattle.seek.specs.declared.area.Seen.the-variants as Seens
 use Rattle.edit.specs.Tidy.{SameTile}
 use Rattle.edit.specs.Create.{CanLay, Creates, creates-new}
 use Rattle.edit.specs.Delete.{Deletes, CanShrink, shrink-room}
 use Rattle.ushanderi.specs.Answers.{SIZE, UNSOUND, RECT, LABEL, OCCUPIED, FULL, answered, accepted}
-use Rattle.ushanderi.specs.Edits.{drawn, Adds, Removes, Edited, labelIn, SpaceIn}
+use Rattle.ushanderi.specs.Edits.{drawn, Adds, Removes, Edited, labelIn}
 use Rattle.ushanderi.specs.Promises.{Unfit, Fit, FindSays, CreateRefuses, CreateAllows, CreateDone, CreateSays, DeleteRefuses, DeleteAllows, DeleteSays}
 use Rattle.ushanderi.specs.Reading.{foundAnswer, fit-forms, low-record, NotFound, found-at}
 use Rattle.ushanderi.specs.declared.answer.Answer.{Answer}
@@ -72,19 +69,6 @@ refusal t A label a (CreateRefuses.full f r l h c e) = record { number = FULL; v
 
 -- ---- create
 
--- what area search saw
-pub searches-free : (t : List ℤ) (A : Area) (s : Seen) → Searches t A s → s ≡ Seens.Nothing → FreeArea t A
-searches-free t A s (Searches.nothing h) e = h
-searches-free t A s (Searches.solid h) e = absurd (let z : _≡_ {A = ℕ} 0 1 = cc in omega arith)
-
-pub searches-met : (t : List ℤ) (A : Area) (s : Seen) (i x y : ℕ) → Searches t A s → s ≡ Seens.Solid i x y → First t A x y i
-searches-met t A s i x y (Searches.nothing h) e = absurd (let z : _≡_ {A = ℕ} 0 1 = cc in omega arith)
-searches-met t A s i x y (Searches.solid {i = j} {x = u} {y = v} h) e =
-    let a : j ≡ i = cc in
-    let b : u ≡ x = cc in
-    let d : v ≡ y = cc in
-    subst (λ j. First t A x y j) a (subst (λ u. First t A u y j) b (subst (λ v. First t A u v j) d h))
-
 pub create-same : {t t′ : List ℤ} {A B : Area} {l m : ℕ} {a : Answer} → A ≡ B → l ≡ m → CreateSays t A l t′ a → CreateSays t B m t′ a
 create-same {t} {t′} {A} {B} {l} {m} {a} p q s = subst₂ (λ A l. CreateSays t A l t′ a) p q s
 
@@ -101,26 +85,26 @@ pub record Ready (t : List ℤ) (from label solids : ℕ) : Type 0 where
 
 -- the edit's needs
 pub can-lay : (t : List ℤ) (from label : ℕ) (A : Area) → UsedIn t from → label < 2 ^ 32 → CreateAllows t A label
-    → CanLay t from (A .left) (A .bottom) (A .right) (A .top) label
+    → CanLay t from (A .left) (A .bottom) (A .right) (A .top) (drawn A label .paint)
 can-lay t from label A u w a =
     record {
       forms = fit-forms t (a .fit);
       size = a .fit .size;
       from = u;
       rect = omega (arith, a .rect);
-      clear = λ i x y s q k. a .free x y (omega (arith, k)) i (record { below = s .below; kind = s .kind }) q;
-      label = a .named;
+      clear = λ i x y s q k. a .free x y (omega (arith, k)) i s q;
+      paint = record { kind = refl; label = a .named };
       word = w;
     }
 
 -- what the edit leaves of a solid
-same-solid : (t t′ : List ℤ) (i : ℕ) → num t i KIND ≡ SOLID → num t′ i KIND ≡ SOLID → SameTile t t′ i → tileOf t′ i ≡ tileOf t i
-same-solid t t′ i s s′ h = tile-ext (tileOf t′ i) (tileOf t i) (omega arith) (s′ ∙ sym s) (h .label)
+same-solid : (t t′ : List ℤ) (i : ℕ) → SameTile t t′ i → tileOf t′ i ≡ tileOf t i
+same-solid t t′ i h = tile-ext (tileOf t′ i) (tileOf t i) (omega (arith, h .left, h .bottom, h .right, h .top)) (h .paint)
 
 sound-after : (t t′ : List ℤ) → Fit t → length t′ ≡ length t → Forms t′ → Edited t t′
 sound-after t t′ f e g = record { sound = forms-sound t′ (omega (arith, f .size .most)) g; size = e }
 
-pub laid : (t t′ : List ℤ) (k label : ℕ) (A : Area) → CreateAllows t A label → Creates t t′ k (A .left) (A .bottom) (A .right) (A .top) label
+pub laid : (t t′ : List ℤ) (k label : ℕ) (A : Area) → CreateAllows t A label → Creates t t′ k (A .left) (A .bottom) (A .right) (A .top) (drawn A label .paint)
     → CreateDone t A label t′ k
 laid t t′ k label A a c =
     record {
@@ -128,13 +112,11 @@ laid t t′ k label A a c =
       edited = sound-after t t′ (a .fit) (c .adds .size) (c .forms);
       adds =
           record {
-            new = record { below = c .solid .below; kind = c .solid .kind };
-            is = tile-ext (tileOf t′ k) (drawn A label) (omega (arith, c .left, c .bottom, c .right, c .top)) (c .solid .kind) (c .label);
-            was-none = λ s. creates-new t t′ k (A .left) (A .bottom) (A .right) (A .top) label c (record { below = s .below; kind = s .kind });
-            kept = λ i s.
-                let m = c .adds .on i (record { below = s .below; kind = s .kind }) in
-                (record { below = m .solid .below; kind = m .solid .kind }, same-solid t t′ i (s .kind) (m .solid .kind) (m .tile));
-            only = λ i s n. let m = c .adds .back i (record { below = s .below; kind = s .kind }) n in record { below = m .below; kind = m .kind };
+            new = c .solid;
+            is = tile-ext (tileOf t′ k) (drawn A label) (omega (arith, c .left, c .bottom, c .right, c .top)) (c .paint);
+            was-none = creates-new t t′ k (A .left) (A .bottom) (A .right) (A .top) (drawn A label .paint) c;
+            kept = λ i s. let m = c .adds .on i s in (m .solid, same-solid t t′ i (m .tile));
+            only = c .adds .back;
           };
     }
 
@@ -170,7 +152,7 @@ pub record Taken (t : List ℤ) (i : ℕ) (t′ : List ℤ) (label : ℕ) : Type
   pub low : label < 2 ^ 31
 
 pub can-delete : (t : List ℤ) (i : ℕ) → Fit t → SolidIn t i → CanShrink t i
-can-delete t i f s = record { forms = fit-forms t f; size = f .size; solid = record { below = s .below; kind = s .kind } }
+can-delete t i f s = record { forms = fit-forms t f; size = f .size; solid = s }
 
 -- 12 never holds
 pub delete-allows : (t : List ℤ) (x y i : ℕ) → Fit t → Finds t x y i → num t i KIND ≡ SOLID → DeleteAllows t x y i
@@ -183,16 +165,16 @@ pub is-space : (t : List ℤ) (i : ℕ) → Fit t → UsedIn t i → num t i KIN
 is-space t i f u n = go (fit-forms t f .widest .kinded i u)
   where
     go : Kinded (tileOf t i) → SpaceIn t i
-    go (Kinded.space k l) = k
-    go (Kinded.solid k l) = absurd (n k)
+    go (Kinded.space p) = record { below = u .below; kind = p .kind }
+    go (Kinded.solid p) = absurd (n (p .kind))
 
 -- a solid's label is from 1 on
 pub label-low : (t : List ℤ) (i : ℕ) → Fit t → SolidIn t i → ZERO < num t i Words.LABEL
 label-low t i f s = go (fit-forms t f .widest .kinded i (record { below = s .below; used = λ e. omega (arith, s .kind) }))
   where
     go : Kinded (tileOf t i) → ZERO < num t i Words.LABEL
-    go (Kinded.space k l) = absurd (omega (arith, s .kind))
-    go (Kinded.solid k l) = l
+    go (Kinded.space p) = absurd (omega (arith, s .kind, p .kind))
+    go (Kinded.solid p) = p .label
 
 pub taken : (t t′ : List ℤ) (i label : ℕ) → Fit t → Deletes t t′ i → label ≡ labelIn t i → label < 2 ^ 31 → Taken t i t′ label
 taken t t′ i label f d e w =
@@ -201,9 +183,9 @@ taken t t′ i label f d e w =
       removes =
           record {
             kept = λ j s n.
-                let (m, h) = d .on j (record { below = s .below; kind = s .kind }) n in
-                (record { below = m .below; kind = m .kind }, same-solid t t′ j (s .kind) (m .kind) h);
-            only = λ j s. let (m, n) = d .back j (record { below = s .below; kind = s .kind }) in (record { below = m .below; kind = m .kind }, n);
+                let (m, h) = d .on j s n in
+                (m, same-solid t t′ j h);
+            only = d .back;
           };
       is = e;
       low = w;

@@ -5,14 +5,14 @@ use mathlib.Core.List.{List}
 use Prim.Native.Nat.{ℕ, _-_, _<_}
 use lib.IntN.{ℤ}
 use lib.ListN.{length}
-use Rattle.geometry.specs.Picture.{ZERO, FREE, SPACE, SOLID, Tile}
+use Rattle.geometry.specs.Picture.{ZERO, FREE, SOLID, Tile}
 use Rattle.table.specs.Words.{KIND, LABEL, recordsOf, num, tileOf}
 use Rattle.table.specs.Sound.{Sound, SolidIn}
 use Rattle.seek.specs.Meaning.{Area}
 
 -- the solid that a create draws
 abbrev pub drawn : Area → ℕ → Tile
-drawn A label = record { left = A .left; bottom = A .bottom; right = A .right; top = A .top; kind = SOLID; label = label }
+drawn A label = record { left = A .left; bottom = A .bottom; right = A .right; top = A .top; paint = record { kind = SOLID; label = label } }
 
 -- the solids of t′ are those of t, at their record numbers, and one more at record k
 pub record Adds (t t′ : List ℤ) (k : ℕ) (v : Tile) : Type 0 where
@@ -35,10 +35,6 @@ pub record Edited (t t′ : List ℤ) : Type 0 where
 -- the label of record i
 abbrev pub labelIn : List ℤ → ℕ → ℕ
 labelIn t i = num t i LABEL - ZERO
-
--- record i is space
-abbrev pub SpaceIn : List ℤ → ℕ → Type 0
-SpaceIn t i = num t i KIND ≡ SPACE
 
 -- no record of the table is free
 abbrev pub NoRoom : List ℤ → Type 0

@@ -8,7 +8,7 @@ use lib.ListN.{length, drop}
 use denote.Ref.{now}
 use Rattle.geometry.specs.Picture.{ZERO, InPlane}
 use Rattle.table.specs.Words.{recordsOf}
-use Rattle.table.specs.Sound.{SizeRight, Sound, capacity, solidsIn, SolidIn}
+use Rattle.table.specs.Sound.{SizeRight, Sound, capacity, solidsIn, SolidIn, SpaceIn}
 use Rattle.table.specs.Fresh.{freshTable}
 use Rattle.table.specs.View.{Places, Slice, IsPart}
 use Rattle.seek.specs.Meaning.{Area, RectRight, FreeArea, First, Lists, Directed}
@@ -18,7 +18,7 @@ use Rattle.layout.specs.Bytes.{savedAt}
 use Rattle.layout.specs.Order.{Comes, Saves}
 use Rattle.ushanderi.specs.Answers.{SIZE, UNSOUND, POINT, RECT, LABEL, OCCUPIED, FULL, SPACE, SIDE, SHORT, FILE, ROOM, answered, accepted, refused, nothing}
 use Rattle.ushanderi.specs.declared.answer.Answer.{Answer}
-use Rattle.ushanderi.specs.Edits.{drawn, Adds, Removes, Edited, labelIn, SpaceIn, NoRoom}
+use Rattle.ushanderi.specs.Edits.{drawn, Adds, Removes, Edited, labelIn, NoRoom}
 
 -- The checks 1 and 2, which every call but fresh, view and load runs first.
 pub data Unfit (t : List ℤ) (a : Answer) : Type 0 where

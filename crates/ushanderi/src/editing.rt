@@ -21,6 +21,7 @@ use crate::reading::Found;
 use crate::reading::area;
 use crate::reading::find;
 use crate::reading::found_answer;
+use geometry::Paint;
 use seek::Area;
 use seek::Seen;
 use table::numbers;
@@ -68,7 +69,18 @@ fn draw(t: &mut [i32], from: usize, area: Area, label: u64) -> usize
     requires { ⌜ CreateAllows (now t) (areaOf area) label ⌝ }
     ensures { λ r. ⌜ CreateDone (now (t .entry)) (areaOf area) label (now (t .exit)) r ⌝ }
 {
-    edit::create::create(t, from, area.left, area.bottom, area.right, area.top, label)
+    edit::create::create(
+        t,
+        from,
+        area.left,
+        area.bottom,
+        area.right,
+        area.top,
+        Paint {
+            kind: numbers::SOLID,
+            label,
+        },
+    )
 }
 
 // What came of a create: the new solid's record, or the refusal.

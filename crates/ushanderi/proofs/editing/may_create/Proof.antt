@@ -2,10 +2,11 @@
 use mathlib.Core.Path.{refl}
 use native.Mathlib.Omega.{arith}
 use Rattle.geometry.specs.Cases.{yes, no}
+use Rattle.seek.specs.Search.{searches-free, searches-met}
 use Rattle.ushanderi.specs.Promises.{CreateRefuses}
 use Rattle.ushanderi.specs.Reading.{fit-forms}
 use Rattle.ushanderi.specs.ReadingAreas.{searches-low}
-use Rattle.ushanderi.specs.Editing.{searches-free, searches-met, laid-full}
+use Rattle.ushanderi.specs.Editing.{laid-full}
 use borrow.Author.Needs.{needs}
 use Rattle.ushanderi.proofs.editing.may_create.Statement.{statement}
 use Rattle.ushanderi.proofs.editing.may_create.Tie as tie

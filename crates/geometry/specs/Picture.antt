@@ -44,6 +44,9 @@ pub record Tile : Type 0 where
   pub top : ℕ
   pub paint : Paint
 
+abbrev pub solidPaint : ℕ → Paint
+solidPaint label = record { kind = SOLID; label = label }
+
 -- a tile holds the cells with left <= x < right and bottom <= y < top
 pub record Has (v : Tile) (x y : ℕ) : Type 0 where
   pub left : v .left ≤ x

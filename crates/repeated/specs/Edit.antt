@@ -1,5 +1,5 @@
 -- A create and the delete of what it created: what both ask for, and that this holds again after them. Assumes nothing.
-use mathlib.Core.Path.{_≡_, ap, _∙_}
+use mathlib.Core.Path.{_≡_, refl, ap, _∙_}
 use mathlib.Core.List.{List}
 use Prim.Native.Nat.{ℕ, _≤_, _<_, _/_, _^_}
 use native.Mathlib.Omega.{arith}
@@ -7,7 +7,7 @@ use lib.IntN.{ℤ}
 use lib.ListN.{length}
 use lib.Dec.{eqb→eq}
 use Rattle.geometry.specs.Count.{count, count-mono}
-use Rattle.geometry.specs.Picture.{ZERO, SOLID}
+use Rattle.geometry.specs.Picture.{ZERO, SOLID, solidPaint}
 use Rattle.geometry.specs.Tiling.{eq→eqb}
 use Rattle.table.specs.Words.{WIDTH, KIND, recordsOf, num}
 use Rattle.table.specs.Sound.{UsedIn, capacity, solidAt, solidsIn, SolidIn}
@@ -57,7 +57,7 @@ can-free t l b r p label n (occupied f x y k h d) e = absurd (omega arith)
 can-free t l b r p label n (full f h d) e = absurd (omega arith)
 can-free t l b r p label n (free c d) e = c
 
-pub can-lay : (t : List ℤ) (from l b r p label : ℕ) → CanEdit t l b r p label → UsedIn t from → CanLay t from l b r p (inkOf label)
+pub can-lay : (t : List ℤ) (from l b r p label : ℕ) → CanEdit t l b r p label → UsedIn t from → CanLay t from l b r p (solidPaint label)
 can-lay t from l b r p label c u = record {
   forms = c .fit .forms;
   size = c .fit .size;
@@ -68,7 +68,7 @@ can-lay t from l b r p label c u = record {
   word = c .word;
 }
 
-pub can-shrink : (t t′ : List ℤ) (k l b r p label : ℕ) → CanEdit t l b r p label → Creates t t′ k l b r p (inkOf label) → CanShrink t′ k
+pub can-shrink : (t t′ : List ℤ) (k l b r p label : ℕ) → CanEdit t l b r p label → Creates t t′ k l b r p (solidPaint label) → CanShrink t′ k
 can-shrink t t′ k l b r p label e c = record {
   forms = c .forms;
   size = let s = e .fit .size in omega (arith, c .adds .size);
@@ -99,14 +99,14 @@ again t t′ l b r p label c f e on back = record {
     fewer = count-mono (recordsOf t′) (solidAt t′) (solidAt t)
         (λ i h s. eq→eqb (num t i KIND) SOLID (back i (record { below = h; kind = eqb→eq (num t′ i KIND) SOLID s }) .kind))
 
-pub edited-once : (t t₁ t₂ : List ℤ) (l b r p label k : ℕ) → CanEdit t l b r p label → Creates t t₁ k l b r p label → Deletes t₁ t₂ k
+pub edited-once : (t t₁ t₂ : List ℤ) (l b r p label k : ℕ) → CanEdit t l b r p label → Creates t t₁ k l b r p (solidPaint label) → Deletes t₁ t₂ k
     → Edited t t₂ l b r p label k
 edited-once t t₁ t₂ l b r p label k e c d = record {
   can = again t t₂ l b r p label e (record { forms = d .forms; size = let s = e .fit .size in omega (arith, size) }) size on back;
   size = size;
   on = on;
   back = back;
-  new = creates-new t t₁ k l b r p label c;
+  new = creates-new t t₁ k l b r p (solidPaint label) c;
 }
   where
     size : length t₂ ≡ length t

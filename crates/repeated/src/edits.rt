@@ -13,7 +13,9 @@ use crate::find::hint;
 use crate::search::search_from;
 use edit::create::create;
 use edit::delete::delete;
+use geometry::Paint;
 use seek::Area;
+use table::numbers::SOLID;
 use table::numbers::WORDS;
 use table::numbers::ZERO;
 
@@ -63,7 +65,8 @@ fn edit_from(
     ensures { λ k. ⌜ Edited (now (t .entry)) (now (t .exit)) left bottom right top label k ⌝ }
 {
     let from = seek::start(t, hint);
-    let k = create(t, from, left, bottom, right, top, label);
+    let ink = Paint { kind: SOLID, label };
+    let k = create(t, from, left, bottom, right, top, ink);
     delete(t, k);
     k
 }

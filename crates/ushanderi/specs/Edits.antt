@@ -5,14 +5,14 @@ use mathlib.Core.List.{List}
 use Prim.Native.Nat.{ℕ, _-_, _<_}
 use lib.IntN.{ℤ}
 use lib.ListN.{length}
-use Rattle.geometry.specs.Picture.{ZERO, FREE, SOLID, Tile}
+use Rattle.geometry.specs.Picture.{ZERO, FREE, Tile, solidPaint}
 use Rattle.table.specs.Words.{KIND, LABEL, recordsOf, num, tileOf}
 use Rattle.table.specs.Sound.{Sound, SolidIn}
 use Rattle.seek.specs.Meaning.{Area}
 
 -- the solid that a create draws
 abbrev pub drawn : Area → ℕ → Tile
-drawn A label = record { left = A .left; bottom = A .bottom; right = A .right; top = A .top; paint = record { kind = SOLID; label = label } }
+drawn A label = record { left = A .left; bottom = A .bottom; right = A .right; top = A .top; paint = solidPaint label }
 
 -- the solids of t′ are those of t, at their record numbers, and one more at record k
 pub record Adds (t t′ : List ℤ) (k : ℕ) (v : Tile) : Type 0 where

@@ -11,7 +11,7 @@ use Rattle.seek.specs.Meaning.{SolidIn}
 use Rattle.seek.specs.Find.{Finds}
 use Rattle.ushanderi.specs.Answers.{DONE, POINT, SPACE, ROOM, accepted, refused}
 use Rattle.ushanderi.specs.declared.answer.Answer.{Answer}
-use Rattle.ushanderi.specs.Edits.{Removes, labelIn, SpaceIn, NoRoom}
+use Rattle.ushanderi.specs.Edits.{Removes, labelIn, IsSpace, NoRoom}
 use Rattle.ushanderi.specs.Promises.{Unfit, Fit, DeleteRefuses, DeleteDone, DeleteSays}
 use Rattle.claims.specs.AgreeChecks.{Then, stops, goes, same, join, NotFit, not-fit, unfit-agrees, fit-finds-one, finds-inside, number-is, not-done, unfit-not-done}
 use Rattle.claims.specs.AgreePicture.{SamePicture, SameTiles, space-agrees}
@@ -23,7 +23,7 @@ use Rattle.claims.specs.AgreeCreate.{edited-fit}
 record AtSpace (t : List ℤ) (x y : ℕ) : Type 0 where
   at : ℕ
   finds : Finds t x y at
-  space : SpaceIn t at
+  space : IsSpace t at
 
 -- an accepted delete and its answer
 pub record Deleted (t : List ℤ) (x y : ℕ) (t′ : List ℤ) (a : Answer) : Type 0 where
@@ -38,7 +38,7 @@ Checked t x y t′ a =
 
 not-space : (t : List ℤ) (x y i : ℕ) → Fit t → Finds t x y i → SolidIn t i → AtSpace t x y → ⊥
 not-space t x y i f h s p =
-    let e : SpaceIn t i = subst (λ j. SpaceIn t j) (fit-finds-one t f x y (p .at) i (p .finds) h) (p .space) in
+    let e : IsSpace t i = subst (λ j. IsSpace t j) (fit-finds-one t f x y (p .at) i (p .finds) h) (p .space) in
     omega (arith, s .kind)
 
 delete-order : (t : List ℤ) (x y : ℕ) (t′ : List ℤ) (a : Answer) → DeleteSays t x y t′ a

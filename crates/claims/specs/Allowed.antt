@@ -14,7 +14,7 @@ use Rattle.seek.specs.Neighbours.{sideOf, Neighbours}
 use Rattle.seek.specs.Search.{first-one, free-no-first}
 use Rattle.ushanderi.specs.Answers.{OCCUPIED, FULL, POINT, SPACE, answered, accepted, refused, nothing}
 use Rattle.ushanderi.specs.declared.answer.Answer.{Answer}
-use Rattle.ushanderi.specs.Edits.{labelIn, SpaceIn}
+use Rattle.ushanderi.specs.Edits.{labelIn, IsSpace}
 use Rattle.ushanderi.specs.Promises.{Fit, FindSays, listed, NeighboursSays, SearchSays, EnumerateSays, CreateRefuses, CreateSays, DeleteRefuses, DeleteDone, DeleteSays}
 use Rattle.claims.specs.AgreeChecks.{not-fit, fit-forms, fit-finds-one, finds-inside}
 use Rattle.claims.specs.AgreeCreate.{Created}
@@ -78,7 +78,7 @@ module _ (t : List ℤ) (f : Fit t) where
   -- ---- delete
 
   module _ (x y i : ℕ) (h : Finds t x y i) (t′ : List ℤ) (a : Answer) where
-    one-kind : (i j : ℕ) → i ≡ j → SolidIn t i → SpaceIn t j → ⊥
+    one-kind : (i j : ℕ) → i ≡ j → SolidIn t i → IsSpace t j → ⊥
     one-kind i j e s k = omega (arith, s .kind, ap (λ j. num t j KIND) e)
 
     pub deletes : SolidIn t i → DeleteSays t x y t′ a → (a ≡ accepted (labelIn t i)) × DeleteDone t x y t′ i
@@ -90,7 +90,7 @@ module _ (t : List ℤ) (f : Fit t) where
         let q = fit-finds-one t f x y j i (d .allows .finds) h in
         (e ∙ ap (λ j. accepted (labelIn t j)) q, subst (DeleteDone t x y t′) q d)
 
-    pub is-space : SpaceIn t i → DeleteSays t x y t′ a → (a ≡ refused SPACE) × (t′ ≡ t)
+    pub is-space : IsSpace t i → DeleteSays t x y t′ a → (a ≡ refused SPACE) × (t′ ≡ t)
     is-space s (DeleteSays.refuses (DeleteRefuses.unfit u) e) = absurd (not-fit t a u f)
     is-space s (DeleteSays.refuses (DeleteRefuses.point g n e) q) = absurd (n (finds-inside t f x y i h))
     is-space s (DeleteSays.refuses (DeleteRefuses.space g j k c e) q) = (e, q)

@@ -25,7 +25,7 @@ use Rattle.edit.specs.Tidy.{SameTile}
 use Rattle.edit.specs.Create.{CanLay, Creates, creates-new}
 use Rattle.edit.specs.Delete.{Deletes, CanShrink, shrink-room}
 use Rattle.ushanderi.specs.Answers.{SIZE, UNSOUND, RECT, LABEL, OCCUPIED, FULL, answered, accepted}
-use Rattle.ushanderi.specs.Edits.{drawn, Adds, Removes, Edited, labelIn, SpaceIn}
+use Rattle.ushanderi.specs.Edits.{drawn, Adds, Removes, Edited, labelIn, IsSpace}
 use Rattle.ushanderi.specs.Promises.{Unfit, Fit, FindSays, CreateRefuses, CreateAllows, CreateDone, CreateSays, DeleteRefuses, DeleteAllows, DeleteSays}
 use Rattle.ushanderi.specs.Reading.{foundAnswer, fit-forms, low-record, NotFound, found-at}
 use Rattle.ushanderi.specs.declared.answer.Answer.{Answer}
@@ -84,9 +84,9 @@ pub record Ready (t : List ℤ) (from label solids : ℕ) : Type 0 where
   pub number : solids ≡ solidsIn t
 
 -- the edit's needs
-pub can-lay : (t : List ℤ) (from label : ℕ) (A : Area) → UsedIn t from → label < 2 ^ 32 → CreateAllows t A label
+pub can-draw : (t : List ℤ) (from label : ℕ) (A : Area) → UsedIn t from → label < 2 ^ 32 → CreateAllows t A label
     → CanLay t from (A .left) (A .bottom) (A .right) (A .top) label
-can-lay t from label A u w a =
+can-draw t from label A u w a =
     record {
       forms = fit-forms t (a .fit);
       size = a .fit .size;
@@ -104,9 +104,9 @@ same-solid t t′ i s s′ h = tile-ext (tileOf t′ i) (tileOf t i) (omega arit
 sound-after : (t t′ : List ℤ) → Fit t → length t′ ≡ length t → Forms t′ → Edited t t′
 sound-after t t′ f e g = record { sound = forms-sound t′ (omega (arith, f .size .most)) g; size = e }
 
-pub laid : (t t′ : List ℤ) (k label : ℕ) (A : Area) → CreateAllows t A label → Creates t t′ k (A .left) (A .bottom) (A .right) (A .top) label
+pub draw-done : (t t′ : List ℤ) (k label : ℕ) (A : Area) → CreateAllows t A label → Creates t t′ k (A .left) (A .bottom) (A .right) (A .top) label
     → CreateDone t A label t′ k
-laid t t′ k label A a c =
+draw-done t t′ k label A a c =
     record {
       allows = a;
       edited = sound-after t t′ (a .fit) (c .adds .size) (c .forms);
@@ -123,8 +123,8 @@ laid t t′ k label A a c =
     }
 
 -- a create on a sound table that has as many solids as it takes
-pub laid-full : (t : List ℤ) → Fit t → capacity (recordsOf t) ≤ solidsIn t → solidsIn t ≡ capacity (recordsOf t)
-laid-full t f h = omega (arith, fit-forms t f .few)
+pub at-capacity : (t : List ℤ) → Fit t → capacity (recordsOf t) ≤ solidsIn t → solidsIn t ≡ capacity (recordsOf t)
+at-capacity t f h = omega (arith, fit-forms t f .few)
 
 -- one solid more
 pub adds-one : (t t′ : List ℤ) (k : ℕ) (v : Tile) → length t′ ≡ length t → Adds t t′ k v → solidsIn t′ ≡ solidsIn t + 1
@@ -163,10 +163,10 @@ delete-allows t x y i f h k =
     record { fit = f; finds = h; solid = s; room = λ n. let (j, r) = shrink-room t i (can-delete t i f s) in n j (r .below) (r .kind) }
 
 -- a used record that is no solid is space
-pub is-space : (t : List ℤ) (i : ℕ) → Fit t → UsedIn t i → num t i KIND ≢ SOLID → SpaceIn t i
+pub is-space : (t : List ℤ) (i : ℕ) → Fit t → UsedIn t i → num t i KIND ≢ SOLID → IsSpace t i
 is-space t i f u n = go (fit-forms t f .widest .kinded i u)
   where
-    go : Kinded (tileOf t i) → SpaceIn t i
+    go : Kinded (tileOf t i) → IsSpace t i
     go (Kinded.space k l) = k
     go (Kinded.solid k l) = absurd (n k)
 

@@ -37,8 +37,8 @@ abbrev pub labelIn : List ℤ → ℕ → ℕ
 labelIn t i = num t i LABEL - ZERO
 
 -- record i is space
-abbrev pub SpaceIn : List ℤ → ℕ → Type 0
-SpaceIn t i = num t i KIND ≡ SPACE
+abbrev pub IsSpace : List ℤ → ℕ → Type 0
+IsSpace t i = num t i KIND ≡ SPACE
 
 -- no record of the table is free
 abbrev pub NoRoom : List ℤ → Type 0

@@ -17,7 +17,7 @@ use Rattle.layout.specs.Bytes.{savedAt}
 use Rattle.layout.specs.Order.{Comes, Saves}
 use Rattle.ushanderi.specs.Answers.{SIZE, UNSOUND, POINT, RECT, LABEL, OCCUPIED, FULL, SPACE, SIDE, SHORT, FILE, ROOM, answered, accepted, refused, nothing}
 use Rattle.ushanderi.specs.declared.answer.Answer.{Answer}
-use Rattle.ushanderi.specs.Edits.{drawn, Adds, Removes, Edited, labelIn, SpaceIn, NoRoom}
+use Rattle.ushanderi.specs.Edits.{drawn, Adds, Removes, Edited, labelIn, IsSpace, NoRoom}
 
 -- The checks 1 and 2, which every call but fresh, view and load runs first.
 pub data Unfit (t : List ℤ) (a : Answer) : Type 0 where
@@ -110,7 +110,7 @@ pub data CreateSays (t : List ℤ) (A : Area) (label : ℕ) (t′ : List ℤ) (a
 pub data DeleteRefuses (t : List ℤ) (x y : ℕ) (a : Answer) : Type 0 where
   unfit : Unfit t a → DeleteRefuses t x y a
   point : Fit t → (InPlane x y → ⊥) → a ≡ refused POINT → DeleteRefuses t x y a
-  space : Fit t → (i : ℕ) → Finds t x y i → SpaceIn t i → a ≡ refused SPACE → DeleteRefuses t x y a
+  space : Fit t → (i : ℕ) → Finds t x y i → IsSpace t i → a ≡ refused SPACE → DeleteRefuses t x y a
   room : Fit t → (i : ℕ) → Finds t x y i → SolidIn t i → NoRoom t → a ≡ refused ROOM → DeleteRefuses t x y a
 
 -- what holds where none of them does: the solid of record i holds the cell

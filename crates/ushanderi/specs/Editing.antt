@@ -84,9 +84,9 @@ pub record Ready (t : List ℤ) (from label solids : ℕ) : Type 0 where
   pub number : solids ≡ solidsIn t
 
 -- the edit's needs
-pub can-lay : (t : List ℤ) (from label : ℕ) (A : Area) → UsedIn t from → label < 2 ^ 32 → CreateAllows t A label
+pub can-draw : (t : List ℤ) (from label : ℕ) (A : Area) → UsedIn t from → label < 2 ^ 32 → CreateAllows t A label
     → CanLay t from (A .left) (A .bottom) (A .right) (A .top) (drawn A label .paint)
-can-lay t from label A u w a =
+can-draw t from label A u w a =
     record {
       forms = fit-forms t (a .fit);
       size = a .fit .size;
@@ -104,9 +104,9 @@ same-solid t t′ i h = tile-ext (tileOf t′ i) (tileOf t i) (omega (arith, h .
 sound-after : (t t′ : List ℤ) → Fit t → length t′ ≡ length t → Forms t′ → Edited t t′
 sound-after t t′ f e g = record { sound = forms-sound t′ (omega (arith, f .size .most)) g; size = e }
 
-pub laid : (t t′ : List ℤ) (k label : ℕ) (A : Area) → CreateAllows t A label → Creates t t′ k (A .left) (A .bottom) (A .right) (A .top) (drawn A label .paint)
+pub draw-done : (t t′ : List ℤ) (k label : ℕ) (A : Area) → CreateAllows t A label → Creates t t′ k (A .left) (A .bottom) (A .right) (A .top) (drawn A label .paint)
     → CreateDone t A label t′ k
-laid t t′ k label A a c =
+draw-done t t′ k label A a c =
     record {
       allows = a;
       edited = sound-after t t′ (a .fit) (c .adds .size) (c .forms);
@@ -121,8 +121,8 @@ laid t t′ k label A a c =
     }
 
 -- a create on a sound table that has as many solids as it takes
-pub laid-full : (t : List ℤ) → Fit t → capacity (recordsOf t) ≤ solidsIn t → solidsIn t ≡ capacity (recordsOf t)
-laid-full t f h = omega (arith, fit-forms t f .few)
+pub at-capacity : (t : List ℤ) → Fit t → capacity (recordsOf t) ≤ solidsIn t → solidsIn t ≡ capacity (recordsOf t)
+at-capacity t f h = omega (arith, fit-forms t f .few)
 
 -- one solid more
 pub adds-one : (t t′ : List ℤ) (k : ℕ) (v : Tile) → length t′ ≡ length t → Adds t t′ k v → solidsIn t′ ≡ solidsIn t + 1

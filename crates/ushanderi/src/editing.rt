@@ -32,7 +32,7 @@ enum MayCreate {
     Go,
 }
 
-// The decision on a table that is known to be sound and to have so many solids: 4 to 7. The search starts at the tile `from`.
+// The decision on a table that is known to be sound and to have so many solids: 4, 5, 6, 7. The search starts at the tile `from`.
 fn may_create(t: &[i32], from: usize, area: Area, label: u64, solids: usize) -> MayCreate
     requires { ⌜ Ready (now t) from label solids ⌝ }
     ensures { λ r. ⌜ CreateDecides (now (t .entry)) (areaOf area) label r ⌝ }

@@ -1,6 +1,6 @@
 -- `ushanderi::editing::draw` meets its contract: what the decision lets go on is what the edit asks for. Assumes nothing.
 use Rattle.seek.specs.Enumerate.{areaOf}
-use Rattle.ushanderi.specs.Editing.{can-lay, laid}
+use Rattle.ushanderi.specs.Editing.{can-draw, draw-done}
 use borrow.Author.Needs.{needs}
 use Rattle.ushanderi.proofs.editing.draw.Statement.{statement}
 use Rattle.ushanderi.proofs.editing.draw.Tie as tie
@@ -8,7 +8,7 @@ use Rattle.ushanderi.proofs.editing.draw.Tie as tie
 create-requires : tie.Need-create-requires
 create-requires c κs =
     let (u, (w, a)) = c .before .pre in
-    (can-lay _ _ _ (areaOf (c .before .args .area)) u w a, a .few)
+    (can-draw _ _ _ (areaOf (c .before .args .area)) u w a, a .few)
 
 same-length : tie.Need-same-length
 same-length c = search needs
@@ -16,7 +16,7 @@ same-length c = search needs
 returns : tie.Need-returns
 returns c =
     let s = c .before .before .before in
-    laid _ _ _ _ (areaOf (s .args .area)) (s .pre .1 .1) (c .before .create .ensures)
+    draw-done _ _ _ _ (areaOf (s .args .area)) (s .pre .1 .1) (c .before .create .ensures)
 
 pub draw-spec : {M : Type 1} → statement M
 draw-spec = tie.close (tie.spec create-requires same-length returns)

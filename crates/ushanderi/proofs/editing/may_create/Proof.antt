@@ -6,7 +6,7 @@ use Rattle.seek.specs.Search.{searches-free, searches-met}
 use Rattle.ushanderi.specs.Promises.{CreateRefuses}
 use Rattle.ushanderi.specs.Reading.{fit-forms}
 use Rattle.ushanderi.specs.ReadingAreas.{searches-low}
-use Rattle.ushanderi.specs.Editing.{laid-full}
+use Rattle.ushanderi.specs.Editing.{at-capacity}
 use borrow.Author.Needs.{needs}
 use Rattle.ushanderi.proofs.editing.may_create.Statement.{statement}
 use Rattle.ushanderi.proofs.editing.may_create.Tie as tie
@@ -74,7 +74,7 @@ returns-4 c =
     let s = k .before .before in
     CreateRefuses.full (s .pre .fit) (yes (k .before .rect-right .ensures) (k .if1 .taken)) (l .if2 .left)
     (searches-free _ _ _ (r .search .ensures) (n .enum-told .given .1))
-    (laid-full _ (s .pre .fit) (omega (arith, s .pre .number, c .before .capacity .ensures, c .if3 .left))) refl
+    (at-capacity _ (s .pre .fit) (omega (arith, s .pre .number, c .before .capacity .ensures, c .if3 .left))) refl
 
 returns-5 : tie.Need-returns-5
 returns-5 c = CreateRefuses.rect (c .before .before .pre .fit) (no (c .before .rect-right .ensures) (c .if1 .left)) refl

@@ -114,8 +114,8 @@ module _ (t : List ℤ) (f : Fit t) where
   one k = only (eqb k SOLID) 1 + (only (eqb k SPACE) 1 + only (eqb k FREE) 1)
 
   used-kind : (i : ℕ) → Kinded (tileOf t i) → one (num t i KIND) ≡ 1
-  used-kind i (Kinded.space e l) = subst (λ k. one k ≡ 1) (sym e) refl
-  used-kind i (Kinded.solid e l) = subst (λ k. one k ≡ 1) (sym e) refl
+  used-kind i (Kinded.space p) = subst (λ k. one k ≡ 1) (sym (p .kind)) refl
+  used-kind i (Kinded.solid p) = subst (λ k. one k ≡ 1) (sym (p .kind)) refl
 
   one-kind : (i : ℕ) → i < recordsOf t → one (num t i KIND) ≡ 1
   one-kind i h = eq-cases (num t i KIND) FREE

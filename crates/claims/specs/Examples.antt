@@ -111,8 +111,8 @@ holds (at-space S x y) =
 holds fresh = (t t′ : List ℤ) (a : Answer) → SizeRight t → FreshSays t t′ a → (a ≡ accepted 0) × Draws t′ []
 holds (refilled v w x y label) =
     (t t₀ t₁ t₂ t₃ t₄ : List ℤ) (a a₁ a₂ a₃ a₄ : Answer) → SizeRight t → recordsOf t ≡ 20 → FreshSays t t₀ a
-    → CreateSays t₀ (areaOf v) (v .label) t₁ a₁ → CreateSays t₁ (areaOf w) (w .label) t₂ a₂ → DeleteSays t₂ (ruler x) (ruler y) t₃ a₃
-    → CreateSays t₃ (areaOf w) (w .label) t₄ a₄ → Refilled t₁ t₂ t₄ v w label a₁ a₂ a₃ a₄
+    → CreateSays t₀ (areaOf v) (v .paint .label) t₁ a₁ → CreateSays t₁ (areaOf w) (w .paint .label) t₂ a₂ → DeleteSays t₂ (ruler x) (ruler y) t₃ a₃
+    → CreateSays t₃ (areaOf w) (w .paint .label) t₄ a₄ → Refilled t₁ t₂ t₄ v w label a₁ a₂ a₃ a₄
 
 infixr 5 _and_
 -- every entry of the table holds

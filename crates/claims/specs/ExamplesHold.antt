@@ -282,20 +282,20 @@ deleted-C : holds (Example.deleted ABC (pos 12) (pos 17) 3 (A ∷ B ∷ []) 5)
 unfolding abc num ruler findsb
 deleted-C t d t′ a s =
     let (j, h, e) = held ABC abc abc-draws t d (ruler (pos 12)) (ruler (pos 17)) 2 (findsb-finds abc _ _ 2 tt) in
-    let o : SolidIn t j = record { below = h .used .below; kind = ap (λ v. v .kind) e } in
+    let o : SolidIn t j = record { below = h .used .below; kind = ap (λ v. v .paint .kind) e } in
     let (q, w) = deletes t (d .fit) (ruler (pos 12)) (ruler (pos 17)) j h t′ a o s in
-    let k : num t j Words.LABEL ≡ ruler (pos 3) = ap (λ v. v .label) e in
+    let k : num t j Words.LABEL ≡ ruler (pos 3) = ap (λ v. v .paint .label) e in
     let g = draws-less t t′ (A ∷ B ∷ []) j C d C-other (w .edited) (w .removes) o e in
     (q ∙ ap accepted (omega arith), record { draws = g; spaces = spaces-by (A ∷ B ∷ []) ab ab-draws t′ g 5 ab-spaces })
   where
     C-other : Among (A ∷ B ∷ []) C → ⊥
-    C-other m = every-one (λ v. v .label ≡ ruler (pos 3) → ⊥) (A ∷ B ∷ []) C (λ e. omega arith, (λ e. omega arith, tt)) m refl
+    C-other m = every-one (λ v. v .paint .label ≡ ruler (pos 3) → ⊥) (A ∷ B ∷ []) C (λ e. omega arith, (λ e. omega arith, tt)) m refl
 
 at-gap : holds (Example.at-space ABC (pos 15) (pos 5))
 unfolding abc num ruler findsb
 at-gap t d t′ a s =
     let (j, h, e) = held ABC abc abc-draws t d (ruler (pos 15)) (ruler (pos 5)) 5 (findsb-finds abc _ _ 5 tt) in
-    is-space t (d .fit) (ruler (pos 15)) (ruler (pos 5)) j h t′ a (ap (λ v. v .kind) e) s
+    is-space t (d .fit) (ruler (pos 15)) (ruler (pos 5)) j h t′ a (record { below = h .used .below; kind = ap (λ v. v .paint .kind) e }) s
 
 -- ---- from a fresh plane
 
@@ -330,40 +330,40 @@ pub record AfterA (t t₁ : List ℤ) (a₁ : Answer) : Type 0 where
   pub draws : Draws t₁ (A ∷ [])
   pub records : recordsOf t₁ ≡ recordsOf t
 
-pub after-A : (t t₀ t₁ : List ℤ) (a₀ a₁ : Answer) → SizeRight t → FreshSays t t₀ a₀ → CreateSays t₀ (areaOf A) (A .label) t₁ a₁ → AfterA t t₁ a₁
+pub after-A : (t t₀ t₁ : List ℤ) (a₀ a₁ : Answer) → SizeRight t → FreshSays t t₀ a₀ → CreateSays t₀ (areaOf A) (A .paint .label) t₁ a₁ → AfterA t t₁ a₁
 unfolding ruler
 after-A t t₀ t₁ a₀ a₁ z f s =
     let d = fresh-done t t₀ a₀ z f .1 in
-    let c = first-done t₀ (areaOf A) (A .label) d (omega arith) (omega arith) t₁ a₁ s in
-    let (w, e) = created-by t₀ [] (areaOf A) (A .label) t₁ a₁ d c in
+    let c = first-done t₀ (areaOf A) (A .paint .label) d (omega arith) (omega arith) t₁ a₁ s in
+    let (w, e) = created-by t₀ [] (areaOf A) (A .paint .label) t₁ a₁ d c in
     record { answers = w; draws = e; records = ap (λ n. n / WIDTH) (c .done .edited .size ∙ fresh-size t t₀ a₀ f) }
 
 -- and B beside it, and C
-pub second-done : (t : List ℤ) → Draws t (A ∷ []) → 2 ≤ capacity (recordsOf t) → (t′ : List ℤ) (a : Answer) → CreateSays t (areaOf B) (B .label) t′ a
-    → Created t (areaOf B) (B .label) t′ a
+pub second-done : (t : List ℤ) → Draws t (A ∷ []) → 2 ≤ capacity (recordsOf t) → (t′ : List ℤ) (a : Answer) → CreateSays t (areaOf B) (B .paint .label) t′ a
+    → Created t (areaOf B) (B .paint .label) t′ a
 unfolding ruler
 second-done t d n t′ a s =
-    creates t (d .fit) (areaOf B) (B .label) (omega arith) (omega arith) t′ a (λ x y h. draws-free t (A ∷ []) x y d (λ k. omega arith, tt))
+    creates t (d .fit) (areaOf B) (B .paint .label) (omega arith) (omega arith) t′ a (λ x y h. draws-free t (A ∷ []) x y d (λ k. omega arith, tt))
     (omega (arith, solids-by (A ∷ []) one one-draws t d 1 one-solids)) s
 
-third-done : (t : List ℤ) → Draws t (A ∷ B ∷ []) → 3 ≤ capacity (recordsOf t) → (t′ : List ℤ) (a : Answer) → CreateSays t (areaOf C) (C .label) t′ a
-    → Created t (areaOf C) (C .label) t′ a
+third-done : (t : List ℤ) → Draws t (A ∷ B ∷ []) → 3 ≤ capacity (recordsOf t) → (t′ : List ℤ) (a : Answer) → CreateSays t (areaOf C) (C .paint .label) t′ a
+    → Created t (areaOf C) (C .paint .label) t′ a
 unfolding ruler
 third-done t d n t′ a s =
-    creates t (d .fit) (areaOf C) (C .label) (omega arith) (omega arith) t′ a
+    creates t (d .fit) (areaOf C) (C .paint .label) (omega arith) (omega arith) t′ a
     (λ x y h. draws-free t (A ∷ B ∷ []) x y d (λ k. omega arith, (λ k. omega arith, tt)))
     (omega (arith, solids-by (A ∷ B ∷ []) ab ab-draws t d 2 ab-solids)) s
 
 -- A, B and C, created on a fresh plane that takes three, are what the examples start from
 pub start-abc : (t t₀ t₁ t₂ t₃ : List ℤ) (a₀ a₁ a₂ a₃ : Answer) → SizeRight t → 3 ≤ capacity (recordsOf t) → FreshSays t t₀ a₀
-    → CreateSays t₀ (areaOf A) (A .label) t₁ a₁ → CreateSays t₁ (areaOf B) (B .label) t₂ a₂ → CreateSays t₂ (areaOf C) (C .label) t₃ a₃ → Draws t₃ ABC
+    → CreateSays t₀ (areaOf A) (A .paint .label) t₁ a₁ → CreateSays t₁ (areaOf B) (B .paint .label) t₂ a₂ → CreateSays t₂ (areaOf C) (C .paint .label) t₃ a₃ → Draws t₃ ABC
 start-abc t t₀ t₁ t₂ t₃ a₀ a₁ a₂ a₃ z n f s₁ s₂ s₃ =
     let o = after-A t t₀ t₁ a₀ a₁ z f s₁ in
     let r = o .records in
     let c₂ = second-done t₁ (o .draws) (omega arith) t₂ a₂ s₂ in
-    let d₂ = created-by t₁ (A ∷ []) (areaOf B) (B .label) t₂ a₂ (o .draws) c₂ .1 in
+    let d₂ = created-by t₁ (A ∷ []) (areaOf B) (B .paint .label) t₂ a₂ (o .draws) c₂ .1 in
     let c₃ = third-done t₂ d₂ (omega (arith, c₂ .done .edited .size)) t₃ a₃ s₃ in
-    created-by t₂ (A ∷ B ∷ []) (areaOf C) (C .label) t₃ a₃ d₂ c₃ .1
+    created-by t₂ (A ∷ B ∷ []) (areaOf C) (C .paint .label) t₃ a₃ d₂ c₃ .1
 
 created-whole : holds (Example.created [] (area -E -E E E) 1 0)
 unfolding ruler
@@ -374,10 +374,10 @@ created-whole t d n t′ a s =
 
 -- A in a table of 20 records
 module _ (t t′ : List ℤ) (d : Draws t (A ∷ [])) (l : recordsOf t ≡ 20) (a : Answer) where
-  second-full : CreateSays t (areaOf B) (B .label) t′ a → (a ≡ refused FULL) × (t′ ≡ t)
+  second-full : CreateSays t (areaOf B) (B .paint .label) t′ a → (a ≡ refused FULL) × (t′ ≡ t)
   unfolding ruler
   second-full s =
-      is-full t (d .fit) (areaOf B) (B .label) (omega arith) (omega arith) t′ a
+      is-full t (d .fit) (areaOf B) (B .paint .label) (omega arith) (omega arith) t′ a
       (λ x y h. draws-free t (A ∷ []) x y d (λ k. omega arith, tt))
       (omega (arith, solids-by (A ∷ []) one one-draws t d 1 one-solids)) s
 
@@ -385,9 +385,9 @@ module _ (t t′ : List ℤ) (d : Draws t (A ∷ [])) (l : recordsOf t ≡ 20) (
   unfolding one num ruler findsb
   deleted-A s =
       let (j, h, e) = held (A ∷ []) one one-draws t d (ruler (pos 0)) (ruler (pos 0)) 0 (findsb-finds one _ _ 0 tt) in
-      let o : SolidIn t j = record { below = h .used .below; kind = ap (λ v. v .kind) e } in
+      let o : SolidIn t j = record { below = h .used .below; kind = ap (λ v. v .paint .kind) e } in
       let (q, w) = deletes t (d .fit) (ruler (pos 0)) (ruler (pos 0)) j h t′ a o s in
-      let k : num t j Words.LABEL ≡ ruler (pos 1) = ap (λ v. v .label) e in
+      let k : num t j Words.LABEL ≡ ruler (pos 1) = ap (λ v. v .paint .label) e in
       (q ∙ ap accepted (omega arith), draws-less t t′ [] j A d List·Memᴰ·not-nil (w .edited) (w .removes) o e)
 
 refilled-B : holds (Example.refilled A B (pos 0) (pos 0) 1)
@@ -396,7 +396,7 @@ refilled-B t t₀ t₁ t₂ t₃ t₄ a a₁ a₂ a₃ a₄ z n f s₁ s₂ s₃
     let o = after-A t t₀ t₁ a a₁ z f s₁ in
     let (e₂, q) = second-full t₁ t₂ (o .draws) (o .records ∙ n) a₂ s₂ in
     let (e₃, d₃) = deleted-A t₁ t₃ (o .draws) (o .records ∙ n) a₃ (subst (λ t. DeleteSays t (ruler (pos 0)) (ruler (pos 0)) t₃ a₃) q s₃) in
-    let (w₄, d₄) = created-by t₃ [] (areaOf B) (B .label) t₄ a₄ d₃ (first-done t₃ (areaOf B) (B .label) d₃ (omega arith) (omega arith) t₄ a₄ s₄) in
+    let (w₄, d₄) = created-by t₃ [] (areaOf B) (B .paint .label) t₄ a₄ d₃ (first-done t₃ (areaOf B) (B .paint .label) d₃ (omega arith) (omega arith) t₄ a₄ s₄) in
     record { first = o .answers; second = (e₂, q); third = e₃; fourth = w₄; after = d₄ }
 
 -- ---- the table of examples

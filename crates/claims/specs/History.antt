@@ -91,13 +91,13 @@ pub data History : List ℤ → List Tile → Type 0 where
 
 -- the account as a set of solids
 abbrev pub blank : Tile
-blank = record { left = 0; bottom = 0; right = 0; top = 0; kind = 0; label = 0 }
+blank = record { left = 0; bottom = 0; right = 0; top = 0; paint = record { kind = 0; label = 0 } }
 
 abbrev pub setOf : List Tile → Solids
 setOf S = record { size = length S; is = λ k. true; at = λ k. getD S k blank }
 
 abbrev pub spaceTile : ℕ → ℕ → ℕ → ℕ → Tile
-spaceTile left bottom right top = record { left = left; bottom = bottom; right = right; top = top; kind = SPACE; label = ZERO }
+spaceTile left bottom right top = record { left = left; bottom = bottom; right = right; top = top; paint = record { kind = SPACE; label = ZERO } }
 
 pub record Kept (t : List ℤ) (S : List Tile) : Type 0 where
   pub size : SizeRight t
@@ -106,7 +106,7 @@ pub record Kept (t : List ℤ) (S : List Tile) : Type 0 where
   pub solids : (v : Tile) → Among S v ↔ Shows t v
   pub once : Distinct S
   -- and their labels are words
-  pub labels : (v : Tile) → Among S v → v .label < 2 ^ 32
+  pub labels : (v : Tile) → Among S v → v .paint .label < 2 ^ 32
   pub number : length S ≡ solidsIn t
   pub fits : length S ≤ capacity (recordsOf t)
   -- each cell is held exactly once

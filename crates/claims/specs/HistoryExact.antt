@@ -140,8 +140,8 @@ never-room t f n =
     )
   where
     kind : (i : ℕ) → Kinded (tileOf t i) → T (solidAt t i) ⊎ T (spaceAt t i)
-    kind i (Kinded.space e l) = inr (eq→eqb (num t i KIND) SPACE e)
-    kind i (Kinded.solid e l) = inl (eq→eqb (num t i KIND) SOLID e)
+    kind i (Kinded.space p) = inr (eq→eqb (num t i KIND) SPACE (p .kind))
+    kind i (Kinded.solid p) = inl (eq→eqb (num t i KIND) SOLID (p .kind))
 
 -- so no delete answers ROOM
 pub delete-never-room : (t : List ℤ) (x y : ℕ) (t′ : List ℤ) (a : Answer) → DeleteSays t x y t′ a → a .number ≢ pos ROOM

@@ -33,7 +33,7 @@ record Shown (t : List ℤ) (S : List Tile) : Type 0 where
   fit : Fit t
   solids : (v : Tile) → Among S v ↔ Shows t v
   once : Distinct S
-  labels : (v : Tile) → Among S v → v .label < 2 ^ 32
+  labels : (v : Tile) → Among S v → v .paint .label < 2 ^ 32
 
 -- ---- a fresh plane
 
@@ -83,7 +83,7 @@ module _ (t : List ℤ) (S : List Tile) (k : Shown t S) (A : Area) (label : ℕ)
           new-among v,
         );
         once = Distinct.more not-there (k .once);
-        labels = λ v m. ⊎-elim (λ e. subst (λ v. v .label < 2 ^ 32) (sym e) b) (k .labels v) (List·Memᴰ·cases-cons m);
+        labels = λ v m. ⊎-elim (λ e. subst (λ v. v .paint .label < 2 ^ 32) (sym e) b) (k .labels v) (List·Memᴰ·cases-cons m);
       }
 
 -- ---- delete
@@ -177,7 +177,7 @@ module _ (t : List ℤ) (S : List Tile) (k : Shown t S) where
   account-apart =
       let a = own-apart t (k .fit) in
       record {
-        kind = λ j u. let h = of-account j u in subst (λ v. v .kind ≡ SOLID) (h .is) (h .solid .kind);
+        kind = λ j u. let h = of-account j u in subst (λ v. v .paint .kind ≡ SOLID) (h .is) (h .solid .kind);
         limits = λ j u. let h = of-account j u in subst Limits (h .is) (a .limits (h .at) (solid-in t (h .at) (h .solid)));
         apart = λ i j x y u w p q.
             let h = of-account i u in
@@ -212,8 +212,8 @@ module _ (t : List ℤ) (S : List Tile) (k : Shown t S) where
 
   space-strip : (i : ℕ) → num t i KIND ≡ SPACE → TileOf (setOf S) (tileOf t i)
       → Strip (setOf S) (num t i LEFT) (num t i BOTTOM) (num t i RIGHT) (num t i TOP)
-  space-strip i e (TileOf.solid j u c) = absurd (omega (arith, ap (λ v. v .kind) c, account-apart .kind j u))
-  space-strip i e (TileOf.space c l s) = s
+  space-strip i e (TileOf.solid j u c) = absurd (omega (arith, ap (λ v. v .paint .kind) c, account-apart .kind j u))
+  space-strip i e (TileOf.space c s) = s
 
   shown-kept : Kept t S
   shown-kept =
@@ -229,7 +229,7 @@ module _ (t : List ℤ) (S : List Tile) (k : Shown t S) where
         held = λ x y p. one-holder (recordsOf t) (tileOf t) (f .widest) x y p;
         spaces = λ i u e. space-strip i e (account-drawn .each i u);
         strips = λ l b r p s.
-            let (i, u, e) = account-drawn .all (spaceTile l b r p) (TileOf.space refl refl s) in
+            let (i, u, e) = account-drawn .all (spaceTile l b r p) (TileOf.space (record { kind = refl; label = refl }) s) in
             record { at = i; used = u; is = e };
         stitched = k .fit .sound .for .stitched;
         few = sound-three t (k .fit .size .most) (k .fit .sound);

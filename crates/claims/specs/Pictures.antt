@@ -16,7 +16,7 @@ use Rattle.claims.specs.AgreePicture.{SamePicture, picture-turned, tile-
 
 -- a used record with the words of a solid is one
 pub solid-by : (t u : List ℤ) (i j : ℕ) → SolidIn t i → UsedIn u j → tileOf u j ≡ tileOf t i → SolidIn u j
-solid-by t u i j s v e = record { below = v .below; kind = ap (λ w. w .kind) e ∙ s .kind }
+solid-by t u i j s v e = record { below = v .below; kind = ap (λ w. w .paint .kind) e ∙ s .kind }
 
 -- record j of u is the tile that record i of t is
 pub record Twins (t u : List ℤ) (i j : ℕ) : Type 0 where
@@ -45,7 +45,7 @@ no-more t u f g e = inject (recordsOf t) (recordsOf u) (spaceAt t) (spaceAt u) (
     code i h b =
         let k : num t i KIND ≡ SPACE = eqb→eq (num t i KIND) SPACE b in
         let (j, w) = twin t u f g e i (record { below = h; used = λ d. omega arith }) in
-        (j, w .twin .below, eq→eqb (num u j KIND) SPACE (ap (λ v. v .kind) (w .same) ∙ k), w)
+        (j, w .twin .below, eq→eqb (num u j KIND) SPACE (ap (λ v. v .paint .kind) (w .same) ∙ k), w)
 
 pub same-spaces : (t u : List ℤ) → Fit t → Fit u → SamePicture t u → spacesIn t ≡ spacesIn u
 same-spaces t u f g e = omega (arith, no-more t u f g e, no-more u t g f (picture-turned t u e))

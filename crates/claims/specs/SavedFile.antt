@@ -7,7 +7,7 @@ use lib.IntN.{ℤ}
 use lib.ListN.{length, getD, take, drop, length-map, List·getD-map}
 use lib.Seq.{take-at}
 use Rattle.geometry.specs.Picture.{ZERO, Tile, Has, Limits}
-use Rattle.geometry.specs.Tiling.{tile-ext}
+use Rattle.geometry.specs.Tiling.{tile-ext, paint-ext}
 use Rattle.table.specs.Words.{tileOf}
 use Rattle.table.specs.Sound.{solidsIn, SolidIn}
 use Rattle.seek.specs.Meaning.{Area, InArea, RectRight, Lists}
@@ -69,7 +69,7 @@ module _ (t : List ℤ) (f : Fit t) (fits : LabelsFit t) (ks : List ℕ) (l : Li
   unfolding savedOf
   area-nth n h = ap (λ s. areaBy s) (saved-nth n h)
 
-  label-nth : (n : ℕ) → n < length ks → savedAt file n .label ≡ nth n .label
+  label-nth : (n : ℕ) → n < length ks → savedAt file n .label ≡ nth n .paint .label
   unfolding savedOf
   label-nth n h = ap (λ s. s .label) (saved-nth n h)
 
@@ -78,7 +78,7 @@ module _ (t : List ℤ) (f : Fit t) (fits : LabelsFit t) (ks : List ℕ) (l : Li
       let e = area-nth n h in
       tile-ext (filedAt file n) (nth n)
       (record { left = ap (λ R. R .left) e; bottom = ap (λ R. R .bottom) e; right = ap (λ R. R .right) e; top = ap (λ R. R .top) e })
-      (sym (l .each n h .kind)) (label-nth n h)
+      (paint-ext (filedAt file n .paint) (nth n .paint) (sym (l .each n h .kind)) (label-nth n h))
 
   in-nth : (n x y : ℕ) → n < length ks → InArea (areaIn file n) x y → Has (nth n) x y
   in-nth n x y h i = let j : InArea (areaOf (nth n)) x y = subst (λ R. InArea R x y) (area-nth n h) i in omega (arith, j)
@@ -130,7 +130,7 @@ unfolding savedOf
 saved-by t u i j w = ap savedTile (w .same)
   where
     savedTile : Tile → Saved
-    savedTile v = record { left = v .left; bottom = v .bottom; right = v .right; top = v .top; label = v .label }
+    savedTile v = record { left = v .left; bottom = v .bottom; right = v .right; top = v .top; label = v .paint .label }
 
 module _ (t u : List ℤ) (f : Fit t) (g : Fit u) (p : SamePicture t u) where
   ρ : ℕ → ℕ

@@ -189,15 +189,15 @@ created-writes t R label t′ a s c w = create-writes t R label t′ a s (number
 
 -- A and then B on a fresh plane that takes both: whatever the second call answers, it has written
 pub second-writes : (t t₀ t₁ t₂ : List ℤ) (a₀ a₁ a₂ : Answer) → SizeRight t → 2 ≤ capacity (recordsOf t) → FreshSays t t₀ a₀
-    → CreateSays t₀ (areaOf A) (A .label) t₁ a₁ → CreateSays t₁ (areaOf B) (B .label) t₂ a₂ → t₂ ≡ t₁ → ⊥
+    → CreateSays t₀ (areaOf A) (A .paint .label) t₁ a₁ → CreateSays t₁ (areaOf B) (B .paint .label) t₂ a₂ → t₂ ≡ t₁ → ⊥
 second-writes t t₀ t₁ t₂ a₀ a₁ a₂ z n f s₁ s₂ w =
     let o = after-A t t₀ t₁ a₀ a₁ z f s₁ in
     let r = o .records in
-    created-writes t₁ (areaOf B) (B .label) t₂ a₂ s₂ (second-done t₁ (o .draws) (omega arith) t₂ a₂ s₂) w
+    created-writes t₁ (areaOf B) (B .paint .label) t₂ a₂ s₂ (second-done t₁ (o .draws) (omega arith) t₂ a₂ s₂) w
 
 -- A and then fresh once more
 pub second-fresh-writes : (t t₀ t₁ t₂ : List ℤ) (a₀ a₁ a₂ : Answer) → SizeRight t → FreshSays t t₀ a₀
-    → CreateSays t₀ (areaOf A) (A .label) t₁ a₁ → FreshSays t₁ t₂ a₂ → t₂ ≡ t₁ → ⊥
+    → CreateSays t₀ (areaOf A) (A .paint .label) t₁ a₁ → FreshSays t₁ t₂ a₂ → t₂ ≡ t₁ → ⊥
 second-fresh-writes t t₀ t₁ t₂ a₀ a₁ a₂ z f s₁ s₂ w =
     let d = after-A t t₀ t₁ a₀ a₁ z f s₁ .draws in
     fresh-writes t₁ t₂ A a₂ (d .fit .size) (d .all A (List·Memᴰ·head refl)) s₂ w

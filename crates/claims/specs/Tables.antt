@@ -8,7 +8,7 @@ use lib.Dec.{T, eqb, leb, eqb→eq, leb→le}
 use Rattle.ruler.specs.Ruler.{ruler}
 use Rattle.geometry.specs.Sums.{sumTo}
 use Rattle.geometry.specs.Count.{count}
-use Rattle.geometry.specs.Picture.{SPACE, SOLID, Tile}
+use Rattle.geometry.specs.Picture.{SPACE, SOLID, Tile, solidPaint}
 use Rattle.table.specs.Words.{WIDTH, recordsOf, num}
 use Rattle.table.specs.Sound.{Sound, solidsIn, spacesIn}
 use Rattle.table.specs.Decide.{soundb, soundb-sound}
@@ -21,10 +21,10 @@ use Rattle.claims.specs.Tests.{drawsb, drawsb-draws}
 -- ---- rectangles: left, bottom, right, top, and a solid's label
 
 abbrev pub solid : ℤ → ℤ → ℤ → ℤ → ℕ → Tile
-solid l b r t label = record { left = ruler l; bottom = ruler b; right = ruler r; top = ruler t; kind = SOLID; label = ruler (pos label) }
+solid l b r t label = record { left = ruler l; bottom = ruler b; right = ruler r; top = ruler t; paint = solidPaint (ruler (pos label)) }
 
 abbrev pub space : ℤ → ℤ → ℤ → ℤ → Tile
-space l b r t = record { left = ruler l; bottom = ruler b; right = ruler r; top = ruler t; kind = SPACE; label = ruler (pos 0) }
+space l b r t = record { left = ruler l; bottom = ruler b; right = ruler r; top = ruler t; paint = record { kind = SPACE; label = ruler (pos 0) } }
 
 abbrev pub area : ℤ → ℤ → ℤ → ℤ → Area
 area l b r t = record { left = ruler l; bottom = ruler b; right = ruler r; top = ruler t }

@@ -10,7 +10,7 @@ use lib.Dec.{T, eqb, leb, ltb, eqb→eq, leb→le, T-not}
 use Rattle.geometry.specs.Cases.{T-and, and-l, and-r}
 use Rattle.geometry.specs.Picture.{SOLID, Tile}
 use Rattle.geometry.specs.Turns.{top}
-use Rattle.geometry.specs.Tiling.{tile-ext, eq→eqb}
+use Rattle.geometry.specs.Tiling.{tile-ext, paint-ext, eq→eqb}
 use Rattle.table.specs.Words.{LEFT, BOTTOM, RIGHT, TOP, KIND, recordsOf, num, tileOf}
 use Rattle.table.specs.Sound.{UsedIn, solidAt, SolidIn}
 use Rattle.table.specs.Forms.{is-used, used-is}
@@ -39,11 +39,12 @@ some-below p (suc n) b =
 abbrev tileb : Tile → Tile → Bool
 tileb v w =
     eqb (v .left) (w .left) && (eqb (v .bottom) (w .bottom) && (eqb (v .right) (w .right)
-    && (eqb (v .top) (w .top) && (eqb (v .kind) (w .kind) && eqb (v .label) (w .label)))))
+    && (eqb (v .top) (w .top) && (eqb (v .paint .kind) (w .paint .kind) && eqb (v .paint .label) (w .paint .label)))))
 
 tileb-same : (v w : Tile) → T (tileb v w) → v ≡ w
 tileb-same v w b =
-    tile-ext v w (search (and-l, and-r, eqb→eq) depth 9) (search (and-l, and-r, eqb→eq) depth 9) (search (and-l, and-r, eqb→eq) depth 9)
+    tile-ext v w (search (and-l, and-r, eqb→eq) depth 9)
+    (paint-ext (v .paint) (w .paint) (search (and-l, and-r, eqb→eq) depth 9) (search (and-l, and-r, eqb→eq) depth 9))
 
 unfoldable pub amongb : Tile → List Tile → Bool
 amongb v [] = false

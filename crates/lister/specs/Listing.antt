@@ -209,9 +209,9 @@ text-at out out′ text r p =
 
 -- record i as it is read
 pub tile-read : (t : List ℤ) (i : ℕ) (v : Record) → Reads t i v
-    → _≡_ {A = Tile} (record { left = v .left; bottom = v .bottom; right = v .right; top = v .top; kind = v .kind; label = v .label }) (tileOf t i)
+    → _≡_ {A = Tile} (record { left = v .left; bottom = v .bottom; right = v .right; top = v .top; paint = record { kind = v .kind; label = v .label } }) (tileOf t i)
 tile-read t i v h =
-    λ j. record { left = h .left j; bottom = h .bottom j; right = h .right j; top = h .top j; kind = h .kind j; label = h .label j }
+    λ j. record { left = h .left j; bottom = h .bottom j; right = h .right j; top = h .top j; paint = record { kind = h .kind j; label = h .label j } }
 
 -- ---- the ends of a load
 

@@ -44,8 +44,8 @@ newline = 10 ∷ []
 -- a tile's line: kind, label, left, bottom, right, top
 unfoldable pub lineOf : Tile → List ℕ
 lineOf v =
-    kindText (v .kind)
-    ++ (spaced (v .label) ++ (spaced (v .left) ++ (spaced (v .bottom) ++ (spaced (v .right) ++ (spaced (v .top) ++ newline)))))
+    kindText (v .paint .kind)
+    ++ (spaced (v .paint .label) ++ (spaced (v .left) ++ (spaced (v .bottom) ++ (spaced (v .right) ++ (spaced (v .top) ++ newline)))))
 
 -- the line of a refused load: "refused", the number, the value
 abbrev pub refusedText : List ℕ

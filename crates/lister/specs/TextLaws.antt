@@ -96,7 +96,7 @@ kind-other k e = ap (λ b. cond b solidText spaceText) (ne-eqb k SOLID e)
 
 -- a line by its pieces, as they are written
 pub line-pieces : (v : Tile)
-    → (((kindText (v .kind) ++ spaced (v .label)) ++ (spaced (v .left) ++ spaced (v .bottom))) ++ (spaced (v .right) ++ spaced (v .top))) ++ newline ≡ lineOf v
+    → (((kindText (v .paint .kind) ++ spaced (v .paint .label)) ++ (spaced (v .left) ++ spaced (v .bottom))) ++ (spaced (v .right) ++ spaced (v .top))) ++ newline ≡ lineOf v
 unfolding lineOf
 line-pieces v = simp append-assoc
 
@@ -144,8 +144,8 @@ puts-space old new at k r e p = subst (λ ds. Puts old new at ds r) (sym (kind-o
 
 -- ---- lines as they are written
 
-pub puts-line : (v : Tile) (old o₁ o₂ o₃ o₄ new : List ℕ) (at n₁ n₂ n₃ n₄ r : ℕ) → r ≤ length old → Puts old o₁ at (kindText (v .kind)) n₁
-    → Puts o₁ o₂ n₁ (spaced (v .label)) n₂
+pub puts-line : (v : Tile) (old o₁ o₂ o₃ o₄ new : List ℕ) (at n₁ n₂ n₃ n₄ r : ℕ) → r ≤ length old → Puts old o₁ at (kindText (v .paint .kind)) n₁
+    → Puts o₁ o₂ n₁ (spaced (v .paint .label)) n₂
     → Puts o₂ o₃ n₂ (spaced (v .left) ++ spaced (v .bottom)) n₃
     → Puts o₃ o₄ n₃ (spaced (v .right) ++ spaced (v .top)) n₄
     → Puts o₄ new n₄ newline r

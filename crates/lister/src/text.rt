@@ -105,7 +105,7 @@ pub(crate) fn put_line(
 ) -> usize
     requires { ⌜ at + 80 ≤ length (now out) ⌝ }
     requires { ⌜ (label < 2 ^ 32) × (left < 2 ^ 32) × (bottom < 2 ^ 32) × (right < 2 ^ 32) × (top < 2 ^ 32) ⌝ }
-    ensures { λ r. ⌜ Puts (now (out .entry)) (now (out .exit)) at (lineOf (record { left = left; bottom = bottom; right = right; top = top; kind = kind; label = label })) r ⌝ }
+    ensures { λ r. ⌜ Puts (now (out .entry)) (now (out .exit)) at (lineOf (record { left = left; bottom = bottom; right = right; top = top; paint = record { kind = kind; label = label } })) r ⌝ }
     ensures { λ r. ⌜ r ≤ at + 80 ⌝ }
 {
     let named = put_kind(out, at, kind);

@@ -13,7 +13,7 @@ use Rattle.geometry.specs.Tiling.{planeOf, solidsOf, Widest, bound}
 use Rattle.geometry.specs.WidestDrawn.{widest-drawn}
 use Rattle.geometry.specs.DrawnWidest.{drawn-widest, drawn-count}
 use Rattle.geometry.specs.Stitches.{Stitches, HoldsUp, HoldsDown, Up, Down, Good}
-use Rattle.table.specs.Words.{LEFT, BOTTOM, RIGHT, TOP, TR, RT, BL, LB, KIND, recordsOf, num, tileOf}
+use Rattle.table.specs.Words.{LEFT, BOTTOM, RIGHT, TOP, TR, RT, BL, LB, KIND, recordsOf, num, tileOf, MOST}
 use Rattle.table.specs.Sound.{capacity, UsedIn, Named, NONE, Names, Stitched, Zeros, Sound, solidsIn, spacesIn}
 
 abbrev pub planeIn : List ℤ → Plane
@@ -76,7 +76,7 @@ holds-has t i x y h = (is-used t i (h .is), Tiling.holds-has (recordsOf t) (tile
 
 -- ---- a stitch by its word and cell, and by its number and point
 
-module _ (t : List ℤ) (few : recordsOf t ≤ 4016) where
+module _ (t : List ℤ) (few : recordsOf t ≤ MOST) where
   -- the tile that a word names, up and left of (x, y) and down and right of it
   named-up : (w x y : ℕ) → LOW < x → Named t w (x - 1) y → HoldsUp (planeIn t) (link w) x y
   named-up w x y h n =

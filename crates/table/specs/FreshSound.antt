@@ -15,7 +15,7 @@ use Rattle.geometry.specs.Picture.{ZERO, LOW, HIGH, FREE, SPACE, SOLID}
 use Rattle.geometry.specs.Plane.{Is}
 use Rattle.geometry.specs.Tiling.{Kinded, Widest}
 use Rattle.geometry.specs.Stitches.{Good}
-use Rattle.table.specs.Words.{WIDTH, LEFT, BOTTOM, RIGHT, TOP, TR, RT, BL, LB, KIND, LABEL, recordsOf, num, tileOf}
+use Rattle.table.specs.Words.{WIDTH, LEFT, BOTTOM, RIGHT, TOP, TR, RT, BL, LB, KIND, LABEL, recordsOf, num, tileOf, MOST}
 use Rattle.table.specs.Sound.{UsedIn, NONE, Zeros, Sound, solidAt, spaceAt, solidsIn, spacesIn}
 use Rattle.table.specs.Fresh.{freshTable}
 use Rattle.table.specs.Forms.{planeIn, stitchesIn, none, link, Forms, is-used, used-is, forms-sound}
@@ -44,7 +44,7 @@ record Whole (t : List ℤ) (i : ℕ) : Type 0 where
   right : num t i RIGHT ≡ HIGH
   top : num t i TOP ≡ HIGH
 
-module _ (t : List ℤ) (few : recordsOf t ≤ 4016) (o : OneTile t) where
+module _ (t : List ℤ) (few : recordsOf t ≤ MOST) (o : OneTile t) where
   first : UsedIn t 0
   first = record { below = o .some; used = λ e. omega (arith, o .kind) }
 
@@ -156,14 +156,14 @@ fresh-one n h =
       rest = λ i k l m. fresh-rest n i k;
     }
 
-pub fresh-few : (n : ℕ) → WIDTH ≤ n → n / WIDTH ≤ 4016 → recordsOf (freshTable n) ≤ 4016
+pub fresh-few : (n : ℕ) → WIDTH ≤ n → n / WIDTH ≤ MOST → recordsOf (freshTable n) ≤ MOST
 fresh-few n h f = omega (arith, fresh-length n h)
 
-pub fresh-sound : (n : ℕ) → WIDTH ≤ n → n / WIDTH ≤ 4016 → Sound (freshTable n)
+pub fresh-sound : (n : ℕ) → WIDTH ≤ n → n / WIDTH ≤ MOST → Sound (freshTable n)
 fresh-sound n h f = one-sound (freshTable n) (fresh-few n h f) (fresh-one n h)
 
-pub fresh-no-solid : (n : ℕ) → WIDTH ≤ n → n / WIDTH ≤ 4016 → solidsIn (freshTable n) ≡ 0
+pub fresh-no-solid : (n : ℕ) → WIDTH ≤ n → n / WIDTH ≤ MOST → solidsIn (freshTable n) ≡ 0
 fresh-no-solid n h f = one-no-solid (freshTable n) (fresh-few n h f) (fresh-one n h)
 
-pub fresh-one-space : (n : ℕ) → WIDTH ≤ n → n / WIDTH ≤ 4016 → spacesIn (freshTable n) ≡ 1
+pub fresh-one-space : (n : ℕ) → WIDTH ≤ n → n / WIDTH ≤ MOST → spacesIn (freshTable n) ≡ 1
 fresh-one-space n h f = one-space (freshTable n) (fresh-few n h f) (fresh-one n h)

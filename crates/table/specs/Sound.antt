@@ -8,13 +8,13 @@ use lib.ListN.{length}
 use lib.Dec.{eqb}
 use Rattle.geometry.specs.Count.{count}
 use Rattle.geometry.specs.Picture.{ZERO, FREE, SPACE, SOLID, InPlane, Has, Solids, number, Apart, Used, Drawn}
-use Rattle.table.specs.Words.{WIDTH, LEFT, BOTTOM, RIGHT, TOP, TR, RT, BL, LB, KIND, recordsOf, num, tileOf}
+use Rattle.table.specs.Words.{WIDTH, LEFT, BOTTOM, RIGHT, TOP, TR, RT, BL, LB, KIND, recordsOf, num, tileOf, LEAST, MOST}
 
 -- a whole number of records, 20 to 4,016 of them
 pub record SizeRight (t : List ℤ) : Type 0 where
   pub whole : length t % WIDTH ≡ 0
-  pub least : 20 ≤ recordsOf t
-  pub most : recordsOf t ≤ 4016
+  pub least : LEAST ≤ recordsOf t
+  pub most : recordsOf t ≤ MOST
 
 -- how many solids R records take
 abbrev pub capacity : ℕ → ℕ

@@ -41,6 +41,13 @@ KIND = 8
 abbrev pub LABEL : ℕ
 LABEL = 9
 
+-- how few and how many records a table may have
+abbrev pub LEAST : ℕ
+LEAST = 20
+
+abbrev pub MOST : ℕ
+MOST = 4016
+
 -- how many records a table has
 abbrev pub recordsOf : List ℤ → ℕ
 recordsOf t = length t / WIDTH

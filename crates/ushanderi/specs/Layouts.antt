@@ -8,7 +8,7 @@ use lib.ListN.{length}
 use mir.Syntax.{w32}
 use mir.Val.{toZ, ofZ}
 use Rattle.ruler.specs.Ruler.{count-bits}
-use Rattle.table.specs.Words.{WIDTH}
+use Rattle.table.specs.Words.{WIDTH, LEAST, MOST}
 use Rattle.table.specs.Sound.{SizeRight, UsedIn, Sound, solidsIn}
 use Rattle.table.specs.Fresh.{freshTable}
 use Rattle.table.specs.FreshSound.{fresh-length, fresh-one, fresh-sound, fresh-no-solid}
@@ -53,7 +53,7 @@ fresh-long t t₀ z e = ap length e ∙ fresh-length (length t) (omega (arith, z
 pub loading-none : (t t₀ : List ℤ) (bs : List ℕ) → SizeRight t → t₀ ≡ freshTable (length t) → Loading t₀ bs t₀ 0 0
 loading-none t t₀ bs z e = subst (λ u. Loading u bs u 0 0) (sym e) (first (length t) (omega (arith, z .least)) (z .whole) (z .least) (z .most))
   where
-    first : (words : ℕ) → WIDTH ≤ words → words % WIDTH ≡ 0 → 20 ≤ words / WIDTH → words / WIDTH ≤ 4016
+    first : (words : ℕ) → WIDTH ≤ words → words % WIDTH ≡ 0 → LEAST ≤ words / WIDTH → words / WIDTH ≤ MOST
         → Loading (freshTable words) bs (freshTable words) 0 0
     first words h w l m =
         let q = fresh-length words h in

@@ -4,10 +4,9 @@ use mathlib.Core.List.{List, [], _∷_, _++_, map, append-nil, append-assoc}
 use Prim.Native.Nat.{ℕ, suc, _+_, _*_, _≤_, _<_}
 use native.Mathlib.Omega.{arith}
 use lib.IntN.{ℤ}
-use lib.ListN.{length, getD, take, drop, set, length-append, length-set, length-map}
-use lib.Seq.{take-suc, take-suc-set, length-take-le, take-length, take-at, length-front}
-use Rattle.geometry.specs.Picture.{SOLID}
-use Rattle.table.specs.Words.{KIND, recordsOf, num}
+use lib.ListN.{length, getD, take, drop, length-append, length-map}
+use lib.Seq.{take-suc, length-take-le, take-length, take-at}
+use Rattle.table.specs.Words.{recordsOf}
 use Rattle.table.specs.Sound.{SizeRight, solidsIn}
 use Rattle.table.specs.Forms.{Forms}
 use Rattle.layout.specs.declared.bytes.Saved.{Saved}
@@ -90,9 +89,6 @@ module _ (t : List ℤ) (f : Forms t) (z : SizeRight t) (keys : List ℕ) (n : �
 
   pub back-count : n ≡ length (take n (ys ++ drop n keys))
   back-count = sym back-long ∙ ap length (sym back)
-
-  pub back-whole : length (ys ++ drop n keys) ≡ length keys
-  back-whole = length-front keys ys n long
 
   are-sorted : Sorts (keysTo t (recordsOf t)) ys
   are-sorted = subst (λ l. Sorts l ys) (c .are) s

@@ -29,6 +29,11 @@ const WIDE: u64 = 33554432;
 
 const RECORDS: u64 = 4096;
 
+// Solids of a small table, and of the largest.
+const FEW: usize = 128;
+
+const MOST: usize = 1000;
+
 // A solid's key: keys rise in the order of a saved layout.
 fn key(t: &[i32], i: usize) -> u64
     requires { ⌜ Forms (now t) ⌝ }
@@ -90,16 +95,43 @@ fn write_all(t: &[i32], keys: &[u64], out: &mut [u8]) -> usize
     20 * k
 }
 
-// The solids of a table as a saved layout, at the start of the lent bytes, and how many bytes that takes.
+// The solids of a table as a saved layout, at the start of the lent bytes, and how many bytes that takes; with room for keys.
+fn save_by(t: &[i32], keys: &mut [u64], spare: &mut [u64], out: &mut [u8]) -> usize
+    requires { ⌜ Forms (now t) ⌝ }
+    requires { ⌜ SizeRight (now t) ⌝ }
+    requires { ⌜ solidsIn (now t) ≤ length (now keys) ⌝ }
+    requires { ⌜ solidsIn (now t) ≤ length (now spare) ⌝ }
+    requires { ⌜ 20 * solidsIn (now t) ≤ length (now out) ⌝ }
+    ensures { λ r. ⌜ Saves (now (t .entry)) (now (out .entry)) (now (out .exit)) r ⌝ }
+{
+    let n = collect(t, keys);
+    sort(&mut keys[..n], spare);
+    write_all(t, &keys[..n], out)
+}
+
+fn save_few(t: &[i32], out: &mut [u8]) -> usize
+    requires { ⌜ Forms (now t) ⌝ }
+    requires { ⌜ SizeRight (now t) ⌝ }
+    requires { ⌜ solidsIn (now t) ≤ 128 ⌝ }
+    requires { ⌜ 20 * solidsIn (now t) ≤ length (now out) ⌝ }
+    ensures { λ r. ⌜ Saves (now (t .entry)) (now (out .entry)) (now (out .exit)) r ⌝ }
+{
+    let mut keys = [0u64; FEW];
+    let mut spare = [0u64; FEW];
+    save_by(t, &mut keys, &mut spare, out)
+}
+
+// A small table has less room for keys, which would take longer to clear than its solids to save.
 pub fn save(t: &[i32], out: &mut [u8]) -> usize
     requires { ⌜ Forms (now t) ⌝ }
     requires { ⌜ SizeRight (now t) ⌝ }
     requires { ⌜ 20 * solidsIn (now t) ≤ length (now out) ⌝ }
     ensures { λ r. ⌜ Saves (now (t .entry)) (now (out .entry)) (now (out .exit)) r ⌝ }
 {
-    let mut keys = [0u64; 1000];
-    let mut spare = [0u64; 1000];
-    let n = collect(t, &mut keys);
-    sort(&mut keys[..n], &mut spare);
-    write_all(t, &keys[..n], out)
+    if table::capacity(t) <= FEW {
+        return save_few(t, out);
+    }
+    let mut keys = [0u64; MOST];
+    let mut spare = [0u64; MOST];
+    save_by(t, &mut keys, &mut spare, out)
 }

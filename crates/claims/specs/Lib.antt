@@ -24,3 +24,4 @@ pub mod ExamplesHold
 pub mod SavedFile
 pub mod RoundTrip
 pub mod Shams
+pub mod WrongAnswers

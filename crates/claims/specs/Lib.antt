@@ -25,3 +25,4 @@ pub mod SavedFile
 pub mod RoundTrip
 pub mod Shams
 pub mod WrongAnswers
+pub mod Open

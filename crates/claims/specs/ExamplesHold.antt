@@ -307,10 +307,11 @@ fresh-size : (t t′ : List ℤ) (a : Answer) → FreshSays t t′ a → length 
 fresh-size t t′ a (FreshSays.size n e w) = ap length w
 fresh-size t t′ a (FreshSays.done s e w) = ap length w ∙ fresh-length (length t) (omega (arith, s .least))
 
-blank : List ℤ
+-- the fresh plane of 20 records
+unfoldable pub blank : List ℤ
 blank = freshTable 200
 
-blank-draws : Draws blank []
+pub blank-draws : Draws blank []
 unfolding blank
 blank-draws = fresh-draws blank (fit .size)
   where

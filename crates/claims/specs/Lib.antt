@@ -24,3 +24,5 @@ pub mod ExamplesHold
 pub mod SavedFile
 pub mod RoundTrip
 pub mod Shams
+pub mod WrongAnswers
+pub mod Open

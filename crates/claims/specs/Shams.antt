@@ -38,7 +38,7 @@ use Rattle.claims.specs.Examples.{ABC}
 use Rattle.claims.specs.ExamplesHold.{second-done, after-A}
 
 -- any number but DONE
-abbrev Refuses : Answer → Type 0
+abbrev pub Refuses : Answer → Type 0
 Refuses a = a .number ≢ pos DONE
 
 accepts : (a : Answer) (value : ℕ) → a ≡ accepted value → Refuses a → ⊥
@@ -121,7 +121,7 @@ no-refusal-abc t d a s r = no-refused-find t (ruler (pos 9)) (ruler (pos 9)) a (
 
 -- ---- one that always answers "free"
 
-negative : (n value : ℕ) → nothing ≡ answered n value → ⊥
+pub negative : (n value : ℕ) → nothing ≡ answered n value → ⊥
 negative n value e =
     let z : negsuc 0 ≡ pos value = ap (λ a. a .value) e in
     let o : _≡_ {A = ℕ} 0 1 = cc in

@@ -93,6 +93,10 @@ abcd =
 unfoldable pub full : List ℤ
 full = rec -E -E E E (neg 1) (neg 1) (neg 1) (neg 1) 2 1 ++ free 19
 
+-- the same in the next record
+unfoldable pub fullNext : List ℤ
+fullNext = free 1 ++ rec -E -E E E (neg 1) (neg 1) (neg 1) (neg 1) 2 1 ++ free 18
+
 -- ---- they are sound
 
 fit-by : (t : List ℤ) → T (eqb (length t % WIDTH) 0) → T (leb 20 (recordsOf t)) → T (leb (recordsOf t) 4016) → Sound t → Fit t
@@ -120,6 +124,10 @@ abcd-draws = drawsb-draws abcd (A ∷ B ∷ C ∷ D ∷ []) (fit-by abcd tt tt t
 pub full-draws : Draws full (W ∷ [])
 unfolding full soundb drawsb num ruler sumTo count
 full-draws = drawsb-draws full (W ∷ []) (fit-by full tt tt tt (soundb-sound full tt)) tt
+
+pub full-next-draws : Draws fullNext (W ∷ [])
+unfolding fullNext soundb drawsb num ruler sumTo count
+full-next-draws = drawsb-draws fullNext (W ∷ []) (fit-by fullNext tt tt tt (soundb-sound fullNext tt)) tt
 
 -- ---- how many tiles they have
 

@@ -1,0 +1,278 @@
+-- Wrong answers that no promise allows, beside the shams: each lemma says what every allowed answer keeps to. Assumes nothing.
+use mathlib.Core.Path.{_≡_, refl, sym, ap, _∙_, subst}
+use mathlib.Core.Logic.{_≢_}
+use mathlib.Core.List.{List, [], map}
+use Prim.Native.Nat.{ℕ, _+_, _*_, _%_, _≤_, _<_}
+use native.Mathlib.Omega.{arith}
+use lib.IntN.{ℤ, pos}
+use lib.ListN.{length, getD, take, drop, length-map}
+use lib.Seq.{drop-at}
+use denote.Ref.{now}
+use Rattle.geometry.specs.Picture.{ZERO, InPlane, Has}
+use Rattle.geometry.specs.Turns.{Side, top, right, bottom, left}
+use Rattle.geometry.specs.Tiling.{space-is}
+use Rattle.table.specs.Words.{LEFT, BOTTOM, RIGHT, TOP, recordsOf, num, tileOf}
+use Rattle.table.specs.Sound.{SizeRight, Sound, UsedIn, capacity, solidsIn, spacesIn, SolidIn, SpaceIn}
+use Rattle.table.specs.Fresh.{freshTable}
+use Rattle.table.specs.View.{Numbers, Places, Slice}
+use Rattle.table.specs.Forms.{used-is}
+use Rattle.table.specs.Examples.{one, one-spaces, one-solids}
+use Rattle.seek.specs.Meaning.{Area, RectRight}
+use Rattle.seek.specs.Find.{Finds}
+use Rattle.seek.specs.Neighbours.{Touches, Neighbours}
+use Rattle.layout.specs.Order.{savedOf}
+use Rattle.layout.specs.Bytes.{fileBytes}
+use Rattle.layout.specs.BytesLaws.{file-length}
+use Rattle.layout.specs.OneOrder.{saves-bytes}
+use Rattle.ushanderi.specs.Answers.{DONE, POINT, RECT, LABEL, FULL, answered, accepted, refused}
+use Rattle.ushanderi.specs.declared.answer.Answer.{Answer}
+use Rattle.ushanderi.specs.Edits.{labelIn}
+use Rattle.ushanderi.specs.Promises.{Unfit, Fit, FreshSays, CheckSays, ViewSays, FindSays, listed, NeighboursSays, SearchSays, EnumerateSays, CreateRefuses, CreateSays, DeleteSays, SaveSays, LoadStops, LoadSays}
+use Rattle.claims.specs.AgreeChecks.{fit-forms, number-is, number-one, not-done, unfit-not-done}
+use Rattle.claims.specs.AgreeReads.{neighbours-agrees}
+use Rattle.claims.specs.AgreeCreate.{Keeps, edited-fit, create-done, create-agrees}
+use Rattle.claims.specs.AgreeDelete.{delete-done}
+use Rattle.claims.specs.HistoryExact.{Shares}
+use Rattle.claims.specs.Allowed.{deletes}
+use Rattle.claims.specs.Shams.{Refuses, negative}
+
+same-value : {m n i j : ℕ} → answered m i ≡ answered n j → i ≡ j
+same-value {i = i} {j = j} e = let z : pos i ≡ pos j = ap (λ a. a .value) e in cc
+
+-- ---- a refusal that writes: SHORT that writes what fits, OCCUPIED or FULL that writes, a fresh plane before FILE
+
+pub record Unwritten : Type 0 where
+  pub fresh : (t t′ : List ℤ) (a : Answer) → FreshSays t t′ a → Refuses a → t′ ≡ t
+  pub neighbours : (t : List ℤ) (x y : ℕ) (side : ℤ) (out out′ : List ℤ) (a : Answer) → NeighboursSays t x y side out out′ a → Refuses a → out′ ≡ out
+  pub enumerate : (t : List ℤ) (R : Area) (out out′ : List ℤ) (a : Answer) → EnumerateSays t R out out′ a → Refuses a → out′ ≡ out
+  pub create : (t : List ℤ) (R : Area) (label : ℕ) (t′ : List ℤ) (a : Answer) → CreateSays t R label t′ a → Refuses a → t′ ≡ t
+  pub delete : (t : List ℤ) (x y : ℕ) (t′ : List ℤ) (a : Answer) → DeleteSays t x y t′ a → Refuses a → t′ ≡ t
+  pub save : (t : List ℤ) (out out′ : List ℕ) (a : Answer) → SaveSays t out out′ a → Refuses a → out′ ≡ out
+  pub load : (t : List ℤ) (bs : List ℕ) (t′ : List ℤ) (a : Answer) → LoadSays t bs t′ a → length bs % 20 ≢ 0 → t′ ≡ t
+
+fresh-kept : (t t′ : List ℤ) (a : Answer) → FreshSays t t′ a → Refuses a → t′ ≡ t
+fresh-kept t t′ a (FreshSays.size n e w) r = w
+fresh-kept t t′ a (FreshSays.done z e w) r = absurd (r (number-is e))
+
+neighbours-kept : (t : List ℤ) (x y : ℕ) (side : ℤ) (out out′ : List ℤ) (a : Answer) → NeighboursSays t x y side out out′ a → Refuses a → out′ ≡ out
+neighbours-kept t x y side out out′ a (NeighboursSays.unfit u w) r = w
+neighbours-kept t x y side out out′ a (NeighboursSays.point f n e w) r = w
+neighbours-kept t x y side out out′ a (NeighboursSays.side f p n e w) r = w
+neighbours-kept t x y side out out′ a (NeighboursSays.short f s i ks c h l o e w) r = w
+neighbours-kept t x y side out out′ a (NeighboursSays.done f s i ks c h l o e w) r = absurd (r (number-is e))
+
+enumerate-kept : (t : List ℤ) (R : Area) (out out′ : List ℤ) (a : Answer) → EnumerateSays t R out out′ a → Refuses a → out′ ≡ out
+enumerate-kept t R out out′ a (EnumerateSays.unfit u w) r = w
+enumerate-kept t R out out′ a (EnumerateSays.rect f n e w) r = w
+enumerate-kept t R out out′ a (EnumerateSays.short f p ks d o e w) r = w
+enumerate-kept t R out out′ a (EnumerateSays.done f p ks d o e w) r = absurd (r (number-is e))
+
+create-kept : (t : List ℤ) (R : Area) (label : ℕ) (t′ : List ℤ) (a : Answer) → CreateSays t R label t′ a → Refuses a → t′ ≡ t
+create-kept t R label t′ a (CreateSays.refuses o w) r = w
+create-kept t R label t′ a (CreateSays.done k d e) r = absurd (r (number-is e))
+
+delete-kept : (t : List ℤ) (x y : ℕ) (t′ : List ℤ) (a : Answer) → DeleteSays t x y t′ a → Refuses a → t′ ≡ t
+delete-kept t x y t′ a (DeleteSays.refuses o w) r = w
+delete-kept t x y t′ a (DeleteSays.done i d e) r = absurd (r (number-is e))
+
+save-kept : (t : List ℤ) (out out′ : List ℕ) (a : Answer) → SaveSays t out out′ a → Refuses a → out′ ≡ out
+save-kept t out out′ a (SaveSays.unfit u w) r = w
+save-kept t out out′ a (SaveSays.short f ks l o e w) r = w
+save-kept t out out′ a (SaveSays.done f n s o e) r = absurd (r (number-is e))
+
+load-kept : (t : List ℤ) (bs : List ℕ) (t′ : List ℤ) (a : Answer) → LoadSays t bs t′ a → length bs % 20 ≢ 0 → t′ ≡ t
+load-kept t bs t′ a (LoadSays.size n e w) d = w
+load-kept t bs t′ a (LoadSays.file z n e w) d = w
+load-kept t bs t′ a (LoadSays.stopped (LoadStops.stops z r n number value u h b c e) w) d = absurd (d r)
+load-kept t bs t′ a (LoadSays.done z r b e) d = absurd (d r)
+
+pub unwritten : Unwritten
+unwritten = record {
+  fresh = fresh-kept;
+  neighbours = neighbours-kept;
+  enumerate = enumerate-kept;
+  create = create-kept;
+  delete = delete-kept;
+  save = save-kept;
+  load = load-kept;
+}
+
+-- a load refused for one of its records, that keeps the records before it
+pub stopped-fresh : (t : List ℤ) (bs : List ℕ) (t′ : List ℤ) (a : Answer) → SizeRight t → length bs % 20 ≡ 0 → LoadSays t bs t′ a → Refuses a
+    → t′ ≡ freshTable (length t)
+stopped-fresh t bs t′ a z d (LoadSays.size n e w) r = absurd (n z)
+stopped-fresh t bs t′ a z d (LoadSays.file y n e w) r = absurd (n d)
+stopped-fresh t bs t′ a z d (LoadSays.stopped c w) r = w
+stopped-fresh t bs t′ a z d (LoadSays.done y n b e) r = absurd (r (number-is e))
+
+-- ---- entries past the count changed
+
+pub record RestKept : Type 0 where
+  pub neighbours : (t : List ℤ) (x y : ℕ) (side : ℤ) (out out′ : List ℤ) (n : ℕ) → NeighboursSays t x y side out out′ (accepted n) → drop n out′ ≡ drop n out
+  pub enumerate : (t : List ℤ) (R : Area) (out out′ : List ℤ) (n : ℕ) → EnumerateSays t R out out′ (accepted n) → drop n out′ ≡ drop n out
+  pub save : (t : List ℤ) (out out′ : List ℕ) (n : ℕ) → SaveSays t out out′ (accepted n) → drop n out′ ≡ drop n out
+
+listed-rest : (ks : List ℕ) (out out′ : List ℤ) (n : ℕ) → accepted n ≡ accepted (length ks) → out′ ≡ listed ks out → drop n out′ ≡ drop n out
+listed-rest ks out out′ n e w =
+    subst (λ n. drop n out′ ≡ drop n out) (sym (same-value e))
+    (ap (drop (length ks)) w ∙ drop-at (map pos ks) (drop (length ks) out) (length ks) (length-map ks pos))
+
+neighbours-rest : (t : List ℤ) (x y : ℕ) (side : ℤ) (out out′ : List ℤ) (n : ℕ) → NeighboursSays t x y side out out′ (accepted n) → drop n out′ ≡ drop n out
+neighbours-rest t x y side out out′ n (NeighboursSays.unfit u w) = ap (drop n) w
+neighbours-rest t x y side out out′ n (NeighboursSays.point f p e w) = ap (drop n) w
+neighbours-rest t x y side out out′ n (NeighboursSays.side f p q e w) = ap (drop n) w
+neighbours-rest t x y side out out′ n (NeighboursSays.short f s i ks c h l o e w) = ap (drop n) w
+neighbours-rest t x y side out out′ n (NeighboursSays.done f s i ks c h l o e w) = listed-rest ks out out′ n e w
+
+enumerate-rest : (t : List ℤ) (R : Area) (out out′ : List ℤ) (n : ℕ) → EnumerateSays t R out out′ (accepted n) → drop n out′ ≡ drop n out
+enumerate-rest t R out out′ n (EnumerateSays.unfit u w) = ap (drop n) w
+enumerate-rest t R out out′ n (EnumerateSays.rect f p e w) = ap (drop n) w
+enumerate-rest t R out out′ n (EnumerateSays.short f p ks d o e w) = ap (drop n) w
+enumerate-rest t R out out′ n (EnumerateSays.done f p ks d o e w) = listed-rest ks out out′ n e w
+
+save-rest : (t : List ℤ) (out out′ : List ℕ) (n : ℕ) → SaveSays t out out′ (accepted n) → drop n out′ ≡ drop n out
+save-rest t out out′ n (SaveSays.unfit u w) = ap (drop n) w
+save-rest t out out′ n (SaveSays.short f ks l o e w) = ap (drop n) w
+save-rest t out out′ n (SaveSays.done f m s o e) =
+    let saved = map (savedOf t) (s .solids) in
+    subst (λ n. drop n out′ ≡ drop n out) (sym (same-value e))
+    (ap (drop m) (s .writes) ∙ drop-at (fileBytes saved) (drop m out) m (file-length saved ∙ ap (λ n. 20 * n) (length-map (s .solids) (savedOf t)) ∙ sym (s .number)))
+
+pub rest-kept : RestKept
+rest-kept = record { neighbours = neighbours-rest; enumerate = enumerate-rest; save = save-rest }
+
+-- ---- a later check before an earlier one
+
+module _ (t : List ℤ) (f : Fit t) where
+  -- SIDE before POINT
+  pub point-first : (x y : ℕ) (side : ℤ) (out out′ : List ℤ) (a : Answer) → (InPlane x y → ⊥) → NeighboursSays t x y side out out′ a → a ≡ refused POINT
+  point-first x y side out out′ a n s = neighbours-agrees t x y side out out′ out a (refused POINT) s (NeighboursSays.point f n refl refl) .0
+
+  module _ (R : Area) (label : ℕ) (t′ : List ℤ) (a : Answer) (s : CreateSays t R label t′ a) where
+    refuses-with : (n : ℕ) → n ≢ DONE → CreateRefuses t R label (refused n) → a ≡ refused n
+    refuses-with n d o =
+        sym (create-agrees t R label t t′ (refused n) a (CreateSays.refuses o refl) s .refused (λ e. not-done {value = 0} refl d e) .0)
+
+    -- LABEL before RECT
+    pub rect-first : (RectRight R → ⊥) → a ≡ refused RECT
+    rect-first n = refuses-with RECT (λ e. omega arith) (CreateRefuses.rect f n refl)
+
+    -- OCCUPIED or FULL before LABEL
+    pub label-next : RectRight R → label ≤ ZERO → a ≡ refused LABEL
+    label-next r l = refuses-with LABEL (λ e. omega arith) (CreateRefuses.label f r l refl)
+
+-- ---- what is not counted, held or met
+
+-- check: an unsound table accepted, or another count than that of the solids, as of the used records
+pub check-counts : (t : List ℤ) (n : ℕ) → CheckSays t (accepted n) → Sound t × (n ≡ solidsIn t)
+check-counts t n (CheckSays.unfit u) = absurd (unfit-not-done t (accepted n) u refl)
+check-counts t n (CheckSays.done f e) = (f .sound, same-value e)
+
+-- view: words for a number of no record
+pub view-empty : (lent part : Slice) (index : ℤ) → ViewSays lent index part → ((i : ℕ) → Numbers (now lent) index i → ⊥) → now part ≡ []
+view-empty lent part index v n = go (v .place)
+  where
+    go : Places (now lent) index (v .at) (v .len) → now part ≡ []
+    go (Places.nowhere m a e) = v .is .words ∙ ap (λ n. take n (drop (v .at) (now lent))) e
+    go (Places.there i h a e) = absurd (n i h)
+
+-- find: a record that its hint names and that does not hold the cell
+pub find-holds : (t : List ℤ) (x y i : ℕ) → FindSays t x y (accepted i) → Finds t x y i
+find-holds t x y i (FindSays.unfit u) = absurd (unfit-not-done t (accepted i) u refl)
+find-holds t x y i (FindSays.point f n e) = absurd (not-done {value = 0} e (λ e. omega arith) refl)
+find-holds t x y i (FindSays.done f j h e) = subst (Finds t x y) (sym (same-value e)) h
+
+-- the right and the upper edge counted as inside
+pub right-edge-outside : (t : List ℤ) (x y i : ℕ) → FindSays t x y (accepted i) → num t i RIGHT ≢ x
+right-edge-outside t x y i s e = omega (arith, find-holds t x y i s .has)
+
+pub top-edge-outside : (t : List ℤ) (x y i : ℕ) → FindSays t x y (accepted i) → num t i TOP ≢ y
+top-edge-outside t x y i s e = omega (arith, find-holds t x y i s .has)
+
+-- search: a solid outside the rectangle, as one over it that a tile's tr names
+pub search-inside : (t : List ℤ) (R : Area) (i : ℕ) → SearchSays t R (accepted i) → SolidIn t i × Shares (tileOf t i) R
+search-inside t R i (SearchSays.unfit u) = absurd (unfit-not-done t (accepted i) u refl)
+search-inside t R i (SearchSays.rect f n e) = absurd (not-done {value = 0} e (λ e. omega arith) refl)
+search-inside t R i (SearchSays.free f r h e) = absurd (negative DONE i (sym e))
+search-inside t R i (SearchSays.met f r x y j h e) =
+    subst (λ i. SolidIn t i × Shares (tileOf t i) R) (sym (same-value e)) (h .solid, record { x = x; y = y; inside = h .inside; has = h .has })
+
+module _ (t : List ℤ) (f : Fit t) (i : ℕ) (u : UsedIn t i) where
+  apart-from-itself : (s : Side) → Touches s (tileOf t i) (tileOf t i) → ⊥
+  apart-from-itself right m = omega (arith, m .line, fit-forms t f .good .formed i (used-is t i u))
+  apart-from-itself left m = omega (arith, m .line, fit-forms t f .good .formed i (used-is t i u))
+  apart-from-itself top m = omega (arith, m .line, fit-forms t f .good .formed i (used-is t i u))
+  apart-from-itself bottom m = omega (arith, m .line, fit-forms t f .good .formed i (used-is t i u))
+
+  -- neighbours: the tile itself among them
+  pub not-itself : (s : Side) (ks : List ℕ) (n : ℕ) → Neighbours t s i ks → n < length ks → getD ks n 0 ≢ i
+  not-itself s ks n l h e = apart-from-itself s (subst (λ k. Touches s (tileOf t i) (tileOf t k)) e (l .each n h .touches))
+
+  -- a tile above or below that shares a corner with the right side
+  pub corner-outside : (ks : List ℕ) (n : ℕ) → Neighbours t right i ks → n < length ks
+      → (num t (getD ks n 0) TOP ≢ num t i BOTTOM) × (num t (getD ks n 0) BOTTOM ≢ num t i TOP)
+  corner-outside ks n l h = let m = l .each n h .touches in (λ e. omega (arith, m .one), λ e. omega (arith, m .other))
+
+  -- the right side from the bottom up
+  pub not-upwards : (ks : List ℕ) (m n : ℕ) → Neighbours t right i ks → m < n → n < length ks → num t (getD ks m 0) TOP ≤ num t (getD ks n 0) BOTTOM → ⊥
+  not-upwards ks m n l h k o =
+      let formed = fit-forms t f .good .formed in
+      omega (
+        arith,
+        l .order m n h k,
+        formed (getD ks m 0) (used-is t (getD ks m 0) (l .each m (omega arith) .used)),
+        formed (getD ks n 0) (used-is t (getD ks n 0) (l .each n k .used)),
+      )
+
+-- save: another number of bytes
+pub save-counts : (t : List ℤ) (out out′ : List ℕ) (n : ℕ) → SaveSays t out out′ (accepted n) → n ≡ 20 * solidsIn t
+save-counts t out out′ n (SaveSays.unfit u w) = absurd (unfit-not-done t (accepted n) u refl)
+save-counts t out out′ n (SaveSays.short f ks l o e w) = absurd (not-done {value = 20 * length ks} e (λ e. omega arith) refl)
+save-counts t out out′ n (SaveSays.done f m s o e) = same-value e ∙ saves-bytes t out out′ m s
+
+-- ---- edits
+
+-- create: FULL while fewer than N solids are present, as where the used records are counted
+pub full-counts : (t : List ℤ) (R : Area) (label : ℕ) (t′ : List ℤ) (a : Answer) → CreateSays t R label t′ a → solidsIn t < capacity (recordsOf t)
+    → a .number ≢ pos FULL
+full-counts t R label t′ a (CreateSays.refuses (CreateRefuses.unfit (Unfit.size n e)) w) l h = omega (arith, number-one e h)
+full-counts t R label t′ a (CreateSays.refuses (CreateRefuses.unfit (Unfit.unsound z n e)) w) l h = omega (arith, number-one e h)
+full-counts t R label t′ a (CreateSays.refuses (CreateRefuses.rect f n e) w) l h = omega (arith, number-one e h)
+full-counts t R label t′ a (CreateSays.refuses (CreateRefuses.label f r n e) w) l h = omega (arith, number-one e h)
+full-counts t R label t′ a (CreateSays.refuses (CreateRefuses.occupied f r n x y i m e) w) l h = omega (arith, number-one e h)
+full-counts t R label t′ a (CreateSays.refuses (CreateRefuses.full f r n m c e) w) l h = omega arith
+full-counts t R label t′ a (CreateSays.done k d e) l h = omega (arith, number-one e h)
+
+-- a solid moved to another record, by whatever a create answers
+pub create-keeps : (t : List ℤ) (R : Area) (label : ℕ) (t′ : List ℤ) (a : Answer) → CreateSays t R label t′ a → Keeps t t′
+create-keeps t R label t′ a (CreateSays.refuses o w) i s = subst (λ u. SolidIn u i × (tileOf u i ≡ tileOf t i)) (sym w) (s, refl)
+create-keeps t R label t′ a (CreateSays.done k d e) i s = d .adds .kept i s
+
+-- delete: a solid that does not hold the cell moved or taken away
+pub delete-keeps : (t : List ℤ) (x y : ℕ) (t′ : List ℤ) (a : Answer) → DeleteSays t x y t′ a → (i : ℕ) → SolidIn t i → (Has (tileOf t i) x y → ⊥)
+    → SolidIn t′ i × (tileOf t′ i ≡ tileOf t i)
+delete-keeps t x y t′ a (DeleteSays.refuses o w) i s n = subst (λ u. SolidIn u i × (tileOf u i ≡ tileOf t i)) (sym w) (s, refl)
+delete-keeps t x y t′ a (DeleteSays.done k d e) i s n =
+    d .removes .kept i s (λ q. n (subst (λ i. Has (tileOf t i) x y) (sym q) (d .allows .finds .has)))
+
+-- another label than that of the solid at the cell
+pub label-removed : (t : List ℤ) (x y i : ℕ) (t′ : List ℤ) (n : ℕ) → Fit t → Finds t x y i → SolidIn t i → DeleteSays t x y t′ (accepted n) → n ≡ labelIn t i
+label-removed t x y i t′ n f h o s = same-value (deletes t f x y i h t′ (accepted n) o s .0)
+
+-- remainders of equal span left stacked after a create or a delete
+merged : (t : List ℤ) → Fit t → (i j : ℕ) → SpaceIn t i → SpaceIn t j → num t i LEFT ≡ num t j LEFT → num t i RIGHT ≡ num t j RIGHT
+    → num t i TOP ≢ num t j BOTTOM
+merged t f i j u v =
+    fit-forms t f .widest .strips .merged i j (space-is (recordsOf t) (tileOf t) i (u .below) (u .kind)) (space-is (recordsOf t) (tileOf t) j (v .below) (v .kind))
+
+pub create-merges : (t : List ℤ) (R : Area) (label : ℕ) (t′ : List ℤ) (a : Answer) → CreateSays t R label t′ a → a .number ≡ pos DONE → (i j : ℕ) → SpaceIn t′ i
+    → SpaceIn t′ j → num t′ i LEFT ≡ num t′ j LEFT → num t′ i RIGHT ≡ num t′ j RIGHT → num t′ i TOP ≢ num t′ j BOTTOM
+create-merges t R label t′ a s e = let d = create-done s e .done in merged t′ (edited-fit t t′ (d .allows .fit) (d .edited))
+
+pub delete-merges : (t : List ℤ) (x y : ℕ) (t′ : List ℤ) (a : Answer) → DeleteSays t x y t′ a → a .number ≡ pos DONE → (i j : ℕ) → SpaceIn t′ i → SpaceIn t′ j
+    → num t′ i LEFT ≡ num t′ j LEFT → num t′ i RIGHT ≡ num t′ j RIGHT → num t′ i TOP ≢ num t′ j BOTTOM
+delete-merges t x y t′ a s e = let d = delete-done s e .done in merged t′ (edited-fit t t′ (d .allows .fit) (d .edited))
+
+-- no lower bound on the space tiles holds than 3n + 1: A alone has as many
+pub bound-met : spacesIn one ≡ 3 * solidsIn one + 1
+bound-met = omega (arith, one-spaces, one-solids)

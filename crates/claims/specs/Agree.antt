@@ -11,10 +11,11 @@ use Rattle.seek.specs.Meaning.{Area}
 use Rattle.ushanderi.specs.declared.answer.Answer.{Answer}
 use Rattle.ushanderi.specs.Promises.{Fit, FreshSays, CheckSays, ViewSays, FindSays, NeighboursSays, SearchSays, EnumerateSays, CreateSays, DeleteSays, SaveSays, LoadSays}
 use Rattle.claims.specs.AgreeReads.{fresh-agrees, check-agrees, places-agree, view-placed, view-agrees, find-agrees, neighbours-agrees, search-agrees, enumerate-agrees, save-agrees}
-use Rattle.claims.specs.AgreePicture.{SamePicture, SameTiles, space-agrees}
-use Rattle.claims.specs.AgreeCreate.{CreateAgrees, create-agrees}
-use Rattle.claims.specs.AgreeDelete.{DeleteAgrees, delete-agrees}
-use Rattle.claims.specs.AgreeLoad.{LoadAgrees, load-agrees}
+use Rattle.claims.specs.AgreePicture.{space-agrees}
+use Rattle.claims.specs.AgreeCreate.{create-agrees}
+use Rattle.claims.specs.AgreeDelete.{delete-agrees}
+use Rattle.claims.specs.AgreeLoad.{load-agrees}
+use Rattle.claims.specs.Terms.{SamePicture, SameTiles, CreateAgrees, DeleteAgrees, LoadAgrees}
 
 pub record Agreement : Type 0 where
   pub fresh : (t u v : List ℤ) (a b : Answer) → FreshSays t u a → FreshSays t v b → (a ≡ b) × (u ≡ v)

@@ -18,8 +18,9 @@ use Rattle.ushanderi.specs.Edits.{drawn, Adds, Edited}
 use Rattle.ushanderi.specs.Promises.{Unfit, Fit, CreateRefuses, CreateDone, CreateSays}
 use Rattle.ushanderi.specs.Editing.{refusal}
 use Rattle.claims.specs.AgreeChecks.{Then, stops, goes, both, same, join, NotFit, not-fit, unfit-agrees, fit-forms, number-is, not-done, unfit-not-done}
-use Rattle.claims.specs.AgreePicture.{Shows, SamePicture, picture-turned, shows, picture-count}
-use Rattle.claims.specs.AgreeTables.{Renumbered, Alike, alike-self, alike-turned, alike-renumbered}
+use Rattle.claims.specs.AgreePicture.{picture-turned, shows, picture-count}
+use Rattle.claims.specs.AgreeTables.{Alike, alike-self, alike-turned, alike-renumbered}
+use Rattle.claims.specs.Terms.{Shows, SamePicture, Renumbered, CreateAgrees, Created}
 
 -- ---- create's checks in their order
 
@@ -32,12 +33,6 @@ record Met (t : List ℤ) (A : Area) : Type 0 where
 record Occupied (t : List ℤ) (A : Area) (a : Answer) : Type 0 where
   met : Met t A
   is : a ≡ answered OCCUPIED (met .i)
-
--- an accepted create and its answer
-pub record Created (t : List ℤ) (A : Area) (label : ℕ) (t′ : List ℤ) (a : Answer) : Type 0 where
-  pub at : ℕ
-  pub done : CreateDone t A label t′ at
-  pub is : a ≡ accepted at
 
 abbrev Checked : List ℤ → Area → ℕ → List ℤ → Answer → Type 0
 Checked t A label t′ a =
@@ -157,20 +152,6 @@ module _ (u v : List ℤ) (A : Area) (label : ℕ) (u′ v′ : List ℤ) (a b :
       (create-checked u A label u′ a (l .left) p) (create-checked v A label v′ b (l .right) q)
 
 -- ---- two answers to one create
-
--- every solid of t stands in u at its record number
-abbrev pub Keeps : List ℤ → List ℤ → Type 0
-Keeps t u = (i : ℕ) → SolidIn t i → SolidIn u i × (tileOf u i ≡ tileOf t i)
-
-pub record CreatedAgree (t u v : List ℤ) : Type 0 where
-  pub table : Renumbered u v
-  pub kept : Keeps t u
-  pub kept-too : Keeps t v
-
-pub record CreateAgrees (t u v : List ℤ) (a b : Answer) : Type 0 where
-  pub number : a .number ≡ b .number
-  pub refused : a .number ≢ pos DONE → (a ≡ b) × (u ≡ v)
-  pub done : a .number ≡ pos DONE → CreatedAgree t u v
 
 module _ (t : List ℤ) (A : Area) (label : ℕ) (u v : List ℤ) (a b : Answer) where
   refused-same : (n i j : ℕ) → n ≢ DONE → a ≡ answered n i → b ≡ answered n j → i ≡ j → u ≡ t → v ≡ t → CreateAgrees t u v a b

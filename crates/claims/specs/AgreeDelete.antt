@@ -14,9 +14,9 @@ use Rattle.ushanderi.specs.declared.answer.Answer.{Answer}
 use Rattle.ushanderi.specs.Edits.{Removes, labelIn, NoRoom}
 use Rattle.ushanderi.specs.Promises.{Unfit, Fit, DeleteRefuses, DeleteDone, DeleteSays}
 use Rattle.claims.specs.AgreeChecks.{Then, stops, goes, same, join, NotFit, not-fit, unfit-agrees, fit-finds-one, finds-inside, number-is, not-done, unfit-not-done}
-use Rattle.claims.specs.AgreePicture.{SamePicture}
-use Rattle.claims.specs.AgreeTables.{Renumbered, alike-renumbered}
+use Rattle.claims.specs.AgreeTables.{alike-renumbered}
 use Rattle.claims.specs.AgreeCreate.{edited-fit}
+use Rattle.claims.specs.Terms.{SamePicture, Renumbered, SameRecords, DeleteAgrees}
 
 -- ---- delete's checks in their order
 
@@ -66,20 +66,6 @@ delete-done (DeleteSays.refuses (DeleteRefuses.room f i m s n e) w) h = absurd (
 delete-done (DeleteSays.done i d e) h = record { at = i; done = d; is = e }
 
 -- ---- two answers to one delete
-
--- the solids of u and v agree record by record
-pub record SameRecords (u v : List ℤ) : Type 0 where
-  pub solids : (i : ℕ) → SolidIn u i ↔ SolidIn v i
-  pub tiles : (i : ℕ) → SolidIn u i → tileOf u i ≡ tileOf v i
-
-pub record DeletedAgree (u v : List ℤ) : Type 0 where
-  pub solids : SameRecords u v
-  pub table : Renumbered u v
-
-pub record DeleteAgrees (u v : List ℤ) (a b : Answer) : Type 0 where
-  pub answer : a ≡ b
-  pub refused : a .number ≢ pos DONE → u ≡ v
-  pub done : a .number ≡ pos DONE → DeletedAgree u v
 
 pub records-picture : (u v : List ℤ) → SameRecords u v → SamePicture u v
 records-picture u v s w = (

@@ -15,8 +15,9 @@ use Rattle.ushanderi.specs.Answers.{DONE, SIZE, FILE, answered, accepted, refus
 use Rattle.ushanderi.specs.declared.answer.Answer.{Answer}
 use Rattle.ushanderi.specs.Promises.{Fit, CreateRefuses, CreateDone, CreateSays, areaIn, Built, LoadStops, LoadSays}
 use Rattle.claims.specs.AgreeChecks.{Then, stops, goes, same, join, number-is, not-done}
-use Rattle.claims.specs.AgreeTables.{Renumbered, Alike, alike-self, alike-renumbered}
+use Rattle.claims.specs.AgreeTables.{Alike, alike-self, alike-renumbered}
 use Rattle.claims.specs.AgreeCreate.{refuses-not-done, create-alike}
+use Rattle.claims.specs.Terms.{Renumbered, LoadAgrees}
 
 -- a fresh plane of the right size is fit
 pub fresh-fit : (t : List ℤ) → SizeRight t → Fit (freshTable (length t))
@@ -86,11 +87,6 @@ module _ (t : List ℤ) (s : SizeRight t) (bs : List ℕ) where
       (sym e, stop-number m c d p (subst (λ n. Stop n d) e q))
 
 -- ---- two answers to one load
-
-pub record LoadAgrees (u v : List ℤ) (a b : Answer) : Type 0 where
-  pub answer : a ≡ b
-  pub refused : a .number ≢ pos DONE → u ≡ v
-  pub done : a .number ≡ pos DONE → Renumbered u v
 
 module _ (t : List ℤ) (bs : List ℕ) where
   record Stopped (s : SizeRight t) (t′ : List ℤ) (a : Answer) : Type 0 where

@@ -16,25 +16,7 @@ use Rattle.table.specs.Words.{KIND, recordsOf, num, tileOf}
 use Rattle.table.specs.Sound.{UsedIn, solidAt, solidsIn, SolidIn}
 use Rattle.ushanderi.specs.Promises.{Fit}
 use Rattle.claims.specs.AgreeChecks.{fit-forms, solid-used}
-
--- some record of t is the solid w
-pub record Shows (t : List ℤ) (w : Tile) : Type 0 where
-  pub at : ℕ
-  pub solid : SolidIn t at
-  pub is : tileOf t at ≡ w
-
--- 01: two tables have the same picture when their solids and labels agree
-abbrev pub SamePicture : List ℤ → List ℤ → Type 0
-SamePicture u v = (w : Tile) → Shows u w ↔ Shows v w
-
--- some used record of t, space or solid, is the tile w
-pub record Tiles (t : List ℤ) (w : Tile) : Type 0 where
-  pub at : ℕ
-  pub used : UsedIn t at
-  pub is : tileOf t at ≡ w
-
-abbrev pub SameTiles : List ℤ → List ℤ → Type 0
-SameTiles u v = (w : Tile) → Tiles u w ↔ Tiles v w
+use Rattle.claims.specs.Terms.{Shows, SamePicture, Tiles, SameTiles}
 
 pub picture-turned : (u v : List ℤ) → SamePicture u v → SamePicture v u
 picture-turned u v p w = (p w .1, p w .0)

@@ -8,49 +8,20 @@ use native.Mathlib.Omega.{arith}
 use lib.IntN.{ℤ}
 use lib.ListN.{length}
 use lib.Dec.{eqb}
-use Rattle.geometry.specs.Cases.{lt-cases, eq-cases, only}
+use Rattle.geometry.specs.Cases.{lt-cases, eq-cases}
 use Rattle.geometry.specs.Sums.{sum-add, sum-ext, sum-const}
-use Rattle.geometry.specs.Count.{count}
 use Rattle.geometry.specs.Picture.{ZERO, LOW, HIGH, FREE, SPACE, SOLID, InPlane, Has}
 use Rattle.geometry.specs.Tiling.{Kinded}
+use Rattle.geometry.specs.Counting.{only, count}
 use Rattle.table.specs.Words.{WIDTH, TR, RT, BL, LB, KIND, recordsOf, num, tileOf}
 use Rattle.table.specs.Sound.{NONE, Named, Names, Zeros, solidAt, spaceAt, solidsIn, spacesIn}
 use Rattle.ushanderi.specs.Promises.{Fit}
 use Rattle.claims.specs.AgreeChecks.{fit-forms, fit-finds-one}
-use Rattle.claims.specs.AgreePicture.{SamePicture, SameTiles, picture-turned, space-agrees, picture-count}
-use Rattle.claims.specs.Pictures.{Twins, twin, same-spaces}
+use Rattle.claims.specs.AgreePicture.{picture-turned, space-agrees, picture-count}
+use Rattle.claims.specs.Pictures.{twin, same-spaces}
+use Rattle.claims.specs.Terms.{SamePicture, SameTiles, Twins, SameStitch, SameStitches, freeAt, freeIn, Renumbered}
 
 -- ---- what agrees
-
--- the stitches w of u and z of v both name none, or name records that are one tile
-pub data SameStitch (u v : List ℤ) (w z : ℕ) : Type 0 where
-  none : w ≡ NONE → z ≡ NONE → SameStitch u v w z
-  tile : (i j : ℕ) → w ≡ ZERO + i → z ≡ ZERO + j → Twins u v i j → SameStitch u v w z
-
-pub record SameStitches (u v : List ℤ) (i j : ℕ) : Type 0 where
-  pub tr : SameStitch u v (num u i TR) (num v j TR)
-  pub rt : SameStitch u v (num u i RT) (num v j RT)
-  pub bl : SameStitch u v (num u i BL) (num v j BL)
-  pub lb : SameStitch u v (num u i LB) (num v j LB)
-
--- the free records, how many there are, and that they are zeros
-abbrev pub freeAt : List ℤ → ℕ → Bool
-freeAt t i = eqb (num t i KIND) FREE
-
-abbrev pub freeIn : List ℤ → ℕ
-freeIn t = count (recordsOf t) (freeAt t)
-
-abbrev pub FreeZeros : List ℤ → Type 0
-FreeZeros t = (i : ℕ) → i < recordsOf t → num t i KIND ≡ FREE → Zeros t i
-
--- one table, but for the numbers of its records
-pub record Renumbered (u v : List ℤ) : Type 0 where
-  pub size : length u ≡ length v
-  pub picture : SamePicture u v
-  pub tiles : SameTiles u v
-  pub stitches : (i j : ℕ) → Twins u v i j → SameStitches u v i j
-  pub free : freeIn u ≡ freeIn v
-  pub zeros : FreeZeros u × FreeZeros v
 
 -- ---- two sound tables of one length and one picture
 
@@ -88,8 +59,8 @@ module _ (u v : List ℤ) (l : Alike u v) where
       (λ h.
       let a = p .inside h in
       let b = q .inside h in
-      tile (w - ZERO) (z - ZERO) (omega (arith, a .from)) (omega (arith, b .from)) (named-twins w z x y a b))
-      (λ n. none (p .outside n) (q .outside n))
+      SameStitch.tile (w - ZERO) (z - ZERO) (omega (arith, a .from)) (omega (arith, b .from)) (named-twins w z x y a b))
+      (λ n. SameStitch.none (p .outside n) (q .outside n))
 
   stitches-same : (i j : ℕ) → Twins u v i j → SameStitches u v i j
   stitches-same i j t =

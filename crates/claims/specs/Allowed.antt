@@ -19,9 +19,9 @@ use Rattle.ushanderi.specs.declared.answer.Answer.{Answer}
 use Rattle.ushanderi.specs.Edits.{labelIn}
 use Rattle.ushanderi.specs.Promises.{Fit, FindSays, listed, NeighboursSays, SearchSays, EnumerateSays, CreateRefuses, CreateAllows, CreateSays, DeleteRefuses, DeleteDone, DeleteSays, SaveSays}
 use Rattle.claims.specs.AgreeChecks.{not-fit, fit-forms, fit-finds-one, finds-inside}
-use Rattle.claims.specs.AgreeCreate.{Created}
 use Rattle.claims.specs.AgreeReads.{find-agrees, neighbours-agrees, search-agrees, enumerate-agrees}
 use Rattle.claims.specs.HistoryExact.{never-room}
+use Rattle.claims.specs.Terms.{Created}
 
 -- what an accepted save says
 pub record Saved (t : List ℤ) (out out′ : List ℕ) (a : Answer) : Type 0 where

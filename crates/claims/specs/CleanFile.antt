@@ -19,14 +19,7 @@ use Rattle.claims.specs.History.{filed, filedAt, Kept}
 use Rattle.claims.specs.HistoryAccount.{filed-length, among-filed}
 use Rattle.claims.specs.HistoryKept.{built-kept}
 use Rattle.claims.specs.Allowed.{never-refused}
-
--- whole records, each within the limits of RECT and LABEL, no two that share a cell, no more than N
-pub record Clean (bs : List ℕ) (N : ℕ) : Type 0 where
-  pub whole : length bs % 20 ≡ 0
-  pub rect : (n : ℕ) → n < length bs / 20 → RectRight (areaIn bs n)
-  pub label : (n : ℕ) → n < length bs / 20 → ZERO < savedAt bs n .label
-  pub apart : (m n x y : ℕ) → m < n → n < length bs / 20 → InArea (areaIn bs m) x y → InArea (areaIn bs n) x y → ⊥
-  pub few : length bs / 20 ≤ N
+use Rattle.claims.specs.Terms.{Clean}
 
 module _ (t : List ℤ) (s : SizeRight t) (bs : List ℕ) where
   pub built-length : (n : ℕ) (u : List ℤ) → Built (length t) bs n u → length u ≡ length t

@@ -16,26 +16,19 @@ use Rattle.seek.specs.Meaning.{Area, FreeCell}
 use Rattle.ushanderi.specs.Edits.{Adds, Removes, Edited}
 use Rattle.ushanderi.specs.Promises.{Fit}
 use Rattle.claims.specs.AgreeChecks.{solid-used}
-use Rattle.claims.specs.AgreePicture.{Shows, SamePicture, shows, tile-once}
+use Rattle.claims.specs.AgreePicture.{shows, tile-once}
 use Rattle.claims.specs.AgreeCreate.{edited-fit}
 use Rattle.claims.specs.AgreeLoad.{fresh-fit}
 use Rattle.claims.specs.History.{Among, History, Kept}
 use Rattle.claims.specs.HistoryKept.{history-kept}
-
-pub record Draws (t : List ℤ) (vs : List Tile) : Type 0 where
-  pub fit : Fit t
-  pub each : (i : ℕ) → SolidIn t i → Among vs (tileOf t i)
-  pub all : (v : Tile) → Among vs v → Shows t v
+use Rattle.claims.specs.Terms.{Shows, SamePicture}
+use Rattle.claims.specs.Drawing.{Draws}
 
 pub draws-same : (t u : List ℤ) (vs : List Tile) → Draws t vs → Draws u vs → SamePicture t u
 draws-same t u vs d e w = (one t u d e w, one u t e d w)
   where
     one : (t u : List ℤ) → Draws t vs → Draws u vs → (w : Tile) → Shows t w → Shows u w
     one t u d e w s = e .all w (subst (λ v. Among vs v) (s .is) (d .each (s .at) (s .solid)))
-
--- a solid's rectangle
-abbrev pub areaOf : Tile → Area
-areaOf v = record { left = v .left; bottom = v .bottom; right = v .right; top = v .top }
 
 -- ---- what holds of each of the solids
 

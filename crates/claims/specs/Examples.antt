@@ -15,8 +15,7 @@ use Rattle.ushanderi.specs.Answers.{DONE, POINT, OCCUPIED, FULL, SPACE, answere
 use Rattle.ushanderi.specs.declared.answer.Answer.{Answer}
 use Rattle.ushanderi.specs.Edits.{drawn}
 use Rattle.ushanderi.specs.Promises.{FreshSays, FindSays, listed, NeighboursSays, SearchSays, EnumerateSays, CreateSays, DeleteSays}
-use Rattle.claims.specs.Draws.{Draws, areaOf}
-use Rattle.claims.specs.Tables.{space, area, neg, E, -E, A, B, C}
+use Rattle.claims.specs.Drawing.{space, area, neg, E, -E, A, B, C, Draws, areaOf}
 
 -- ---- answers, with records read as tiles
 

@@ -9,8 +9,7 @@ use lib.IntN.{ℤ, pos}
 use lib.ListN.{length, getD}
 use lib.Dec.{leb, ltb}
 use denote.Ref.{now}
-use Rattle.geometry.specs.Picture.{ZERO, SPACE, InPlane, Tile, Solids, Strip}
-use Rattle.geometry.specs.Tiling.{Holder}
+use Rattle.geometry.specs.Picture.{ZERO, SPACE, InPlane, Tile, Solids, Strip, Holder}
 use Rattle.table.specs.Words.{LEFT, BOTTOM, RIGHT, TOP, KIND, recordsOf, num, tileOf}
 use Rattle.table.specs.Sound.{SizeRight, Sound, SoundFor, UsedIn, Stitched, capacity, solidsIn, spacesIn}
 use Rattle.table.specs.View.{Slice}
@@ -20,7 +19,7 @@ use Rattle.ushanderi.specs.Answers.{DONE, SIZE, FILE}
 use Rattle.ushanderi.specs.declared.answer.Answer.{Answer}
 use Rattle.ushanderi.specs.Edits.{drawn}
 use Rattle.ushanderi.specs.Promises.{FreshSays, CheckSays, ViewSays, FindSays, NeighboursSays, SearchSays, EnumerateSays, CreateRefuses, CreateDone, DeleteRefuses, DeleteDone, SaveSays, areaIn, LoadStops, LoadSays}
-use Rattle.claims.specs.AgreePicture.{Shows, Tiles}
+use Rattle.claims.specs.Terms.{Shows, Tiles}
 
 -- ---- the account
 

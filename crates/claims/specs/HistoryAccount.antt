@@ -10,8 +10,8 @@ use lib.ListN.{length, getD}
 use lib.Dec.{T, leb, ltb, leb→le, le→leb, ltb→lt, lt→ltb, T-not}
 use Rattle.geometry.specs.Cases.{below-suc, T-and, and-l, and-r}
 use Rattle.geometry.specs.Sums.{sum-const}
-use Rattle.geometry.specs.Count.{count}
 use Rattle.geometry.specs.Picture.{Tile, Has, number}
+use Rattle.geometry.specs.Counting.{count}
 use Rattle.layout.specs.Bytes.{savedAt, wordAt}
 use Rattle.claims.specs.History.{Among, Distinct, none, more, within, holds, unless, without, filedAt, filed, blank, setOf}
 

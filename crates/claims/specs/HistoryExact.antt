@@ -9,11 +9,10 @@ use native.Mathlib.Omega.{arith}
 use lib.IntN.{ℤ, pos}
 use lib.ListN.{length}
 use lib.Dec.{T}
-use Rattle.geometry.specs.Cases.{only}
 use Rattle.geometry.specs.Sums.{sum-add, sum-mono, sum-const}
-use Rattle.geometry.specs.Count.{count}
 use Rattle.geometry.specs.Picture.{ZERO, SPACE, SOLID, Tile, Has}
 use Rattle.geometry.specs.Tiling.{Kinded, eq→eqb}
+use Rattle.geometry.specs.Counting.{only, count}
 use Rattle.table.specs.Words.{KIND, recordsOf, num, tileOf}
 use Rattle.table.specs.Sound.{capacity, solidAt, spaceAt, solidsIn, SolidIn}
 use Rattle.table.specs.Forms.{sound-three}
@@ -26,15 +25,9 @@ use Rattle.claims.specs.AgreeChecks.{not-fit, fit-forms, number-is, numb
 use Rattle.claims.specs.AgreePicture.{shows}
 use Rattle.claims.specs.History.{Among, History, Kept}
 use Rattle.claims.specs.HistoryKept.{history-kept}
+use Rattle.claims.specs.Terms.{Shares}
 
 -- ---- create
-
--- the tile v shares a cell with the rectangle
-pub record Shares (v : Tile) (A : Area) : Type 0 where
-  pub x : ℕ
-  pub y : ℕ
-  pub inside : InArea A x y
-  pub has : Has v x y
 
 -- some solid of t shares a cell with the rectangle
 pub record Overlaps (t : List ℤ) (A : Area) : Type 0 where

@@ -21,12 +21,13 @@ use Rattle.layout.specs.Bytes.{savedAt}
 use Rattle.ushanderi.specs.Edits.{drawn}
 use Rattle.ushanderi.specs.Promises.{Fit, CreateDone, DeleteDone, areaIn, Built}
 use Rattle.claims.specs.AgreeChecks.{fit-forms, fit-finds-one, solid-used}
-use Rattle.claims.specs.AgreePicture.{Shows, shows, SameTiles, space-agrees, ownSolids, in-solid, solid-in, own-apart, own-drawn}
+use Rattle.claims.specs.AgreePicture.{shows, space-agrees, ownSolids, in-solid, solid-in, own-apart, own-drawn}
 use Rattle.claims.specs.AgreeCreate.{edited-fit}
 use Rattle.claims.specs.AgreeLoad.{fresh-fit}
 use Rattle.claims.specs.History.{Among, Distinct, without, filed, Begins, Step, History, blank, setOf, spaceTile, Kept}
 use Rattle.claims.specs.HistoryAccount.{filed-label, among-without, without-among, distinct-without, at-among, among-at, distinct-at, set-number}
 use Rattle.claims.specs.HistoryCalls.{fresh-done, fresh-left, load-done, load-fresh, load-left}
+use Rattle.claims.specs.Terms.{Shows, SameTiles}
 
 -- what the steps carry on
 record Shown (t : List ℤ) (S : List Tile) : Type 0 where

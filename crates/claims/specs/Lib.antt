@@ -1,4 +1,6 @@
 -- What follows from the promises alone: agreement, histories, the drawn examples, the round trip, shams.
+pub mod Terms
+pub mod Drawing
 pub mod AgreeChecks
 pub mod AgreeReads
 pub mod AgreePicture

@@ -12,17 +12,12 @@ use Rattle.geometry.specs.Tiling.{eq→eqb}
 use Rattle.table.specs.Words.{KIND, recordsOf, num, tileOf}
 use Rattle.table.specs.Sound.{UsedIn, spaceAt, spacesIn, SolidIn}
 use Rattle.ushanderi.specs.Promises.{Fit}
-use Rattle.claims.specs.AgreePicture.{SamePicture, picture-turned, tile-once, space-agrees}
+use Rattle.claims.specs.AgreePicture.{picture-turned, tile-once, space-agrees}
+use Rattle.claims.specs.Terms.{SamePicture, Twins}
 
 -- a used record with the words of a solid is one
 pub solid-by : (t u : List ℤ) (i j : ℕ) → SolidIn t i → UsedIn u j → tileOf u j ≡ tileOf t i → SolidIn u j
 solid-by t u i j s v e = record { below = v .below; kind = ap (λ w. w .paint .kind) e ∙ s .kind }
-
--- record j of u is the tile that record i of t is
-pub record Twins (t u : List ℤ) (i j : ℕ) : Type 0 where
-  pub used : UsedIn t i
-  pub twin : UsedIn u j
-  pub same : tileOf u j ≡ tileOf t i
 
 pub twins-back : (t u : List ℤ) (i j : ℕ) → Twins t u i j → Twins u t j i
 twins-back t u i j w = record { used = w .twin; twin = w .used; same = sym (w .same) }

@@ -6,7 +6,6 @@ use native.Mathlib.Nat.{not-suc-le-zero, le-of-suc-le-suc}
 use native.Mathlib.Omega.{arith}
 use lib.IntN.{ℤ}
 use lib.ListN.{length, getD, length-map}
-use Rattle.geometry.specs.Turns.{Side}
 use Rattle.table.specs.Words.{LEFT, BOTTOM, RIGHT, TOP, num, tileOf}
 use Rattle.table.specs.Sound.{UsedIn}
 use Rattle.seek.specs.Meaning.{Area, Lists, Over, Meets, Root, Hangs, Tree, tree, Trees, none, more, Directed}
@@ -14,8 +13,9 @@ use Rattle.seek.specs.Neighbours
 use Rattle.seek.specs.Neighbours.{Touches, Neighbour, Neighbours}
 use Rattle.seek.specs.Once.{trees-induction}
 use Rattle.ushanderi.specs.Promises.{Fit}
-use Rattle.claims.specs.AgreePicture.{SamePicture}
-use Rattle.claims.specs.Pictures.{Twins, twins-back, renamed, renamed-twin, renamed-from}
+use Rattle.claims.specs.Pictures.{twins-back, renamed, renamed-twin, renamed-from}
+use Rattle.claims.specs.Terms.{SamePicture, Twins}
+use Rattle.geometry.specs.Picture.{Side}
 
 -- the sides of twins, number by number
 record SameNumbers (t u : List ℤ) (i j : ℕ) : Type 0 where

@@ -12,16 +12,17 @@ use Rattle.geometry.specs.Picture.{Tile}
 use Rattle.table.specs.Words.{WIDTH, LABEL, recordsOf, num, tileOf}
 use Rattle.table.specs.Sound.{SizeRight, capacity, solidsIn}
 use Rattle.layout.specs.OneOrder.{order-length}
-use Rattle.layout.specs.RoundTrip.{LabelsFit}
+use Rattle.layout.specs.Order.{LabelsFit}
 use Rattle.ushanderi.specs.Answers.{accepted}
 use Rattle.ushanderi.specs.declared.answer.Answer.{Answer}
 use Rattle.ushanderi.specs.Promises.{Fit, SaveSays, LoadSays}
-use Rattle.claims.specs.AgreePicture.{SamePicture, shows}
+use Rattle.claims.specs.AgreePicture.{shows}
 use Rattle.claims.specs.History.{History}
 use Rattle.claims.specs.HistoryKept.{built-kept, history-kept}
 use Rattle.claims.specs.Allowed.{saves}
 use Rattle.claims.specs.CleanFile.{built-length, clean-loads}
 use Rattle.claims.specs.SavedFile.{savedFile, saved-number, saved-clean, saved-picture, saved-bytes, save-by-picture}
+use Rattle.claims.specs.Terms.{SamePicture}
 
 -- ---- save, then load
 

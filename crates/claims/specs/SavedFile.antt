@@ -14,21 +14,21 @@ use Rattle.seek.specs.Meaning.{Area, InArea, RectRight, Lists}
 use Rattle.layout.specs.declared.bytes.Saved.{Saved}
 use Rattle.layout.specs.Bytes.{fileBytes, savedAt}
 use Rattle.layout.specs.BytesLaws.{file-length, saved-file}
-use Rattle.layout.specs.Order.{Comes, savedOf, Saves}
+use Rattle.layout.specs.Order.{Comes, savedOf, Saves, LabelsFit}
 use Rattle.layout.specs.OneOrder.{comes-asym, order-length}
-use Rattle.layout.specs.RoundTrip.{LabelsFit, solids-fit}
+use Rattle.layout.specs.RoundTrip.{solids-fit}
 use Rattle.ushanderi.specs.Answers.{SHORT, answered}
 use Rattle.ushanderi.specs.declared.answer.Answer.{Answer}
 use Rattle.ushanderi.specs.Promises.{Fit, SaveSays, areaIn}
 use Rattle.claims.specs.AgreeChecks.{fit-forms, solid-used, not-fit}
-use Rattle.claims.specs.AgreePicture.{SamePicture, own-apart, solid-in}
+use Rattle.claims.specs.AgreePicture.{own-apart, solid-in}
 use Rattle.claims.specs.AgreeReads.{save-agrees}
 use Rattle.claims.specs.History.{Among, filed, filedAt, Kept}
 use Rattle.claims.specs.HistoryAccount.{filed-among, among-filed}
-use Rattle.claims.specs.Pictures.{Twins, solid-by, renamed, renamed-twin}
+use Rattle.claims.specs.Pictures.{solid-by, renamed, renamed-twin}
 use Rattle.claims.specs.Renamed.{lists-renamed}
-use Rattle.claims.specs.Draws.{areaOf}
-use Rattle.claims.specs.CleanFile.{Clean}
+use Rattle.claims.specs.Terms.{SamePicture, Twins, Clean}
+use Rattle.claims.specs.Drawing.{areaOf}
 
 -- what is saved of a solid, as the rectangle of a create
 abbrev areaBy : Saved → Area

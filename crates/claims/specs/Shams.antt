@@ -23,19 +23,19 @@ use Rattle.ushanderi.specs.Answers.{DONE, SIZE, UNSOUND, RECT, SHORT, answered,
 use Rattle.ushanderi.specs.declared.answer.Answer.{Answer}
 use Rattle.ushanderi.specs.Promises.{Unfit, Fit, FreshSays, CheckSays, ViewSays, FindSays, listed, NeighboursSays, SearchSays, EnumerateSays, CreateAllows, CreateSays, DeleteSays, SaveSays, LoadSays}
 use Rattle.claims.specs.AgreeChecks.{fit-forms, not-fit, number-is}
-use Rattle.claims.specs.AgreePicture.{Shows}
 use Rattle.claims.specs.AgreeReads.{fresh-agrees, check-agrees, view-placed, enumerate-agrees}
-use Rattle.claims.specs.AgreeCreate.{Created, create-done}
+use Rattle.claims.specs.AgreeCreate.{create-done}
 use Rattle.claims.specs.AgreeDelete.{delete-done}
 use Rattle.claims.specs.History.{Among, Distinct, filedAt, filed, Begins, History}
 use Rattle.claims.specs.HistoryAccount.{filed-among}
 use Rattle.claims.specs.HistoryKept.{built-kept, history-kept}
-use Rattle.claims.specs.Draws.{Draws, areaOf, fresh-draws}
-use Rattle.claims.specs.Tables.{area, A, B, C}
+use Rattle.claims.specs.Draws.{fresh-draws}
 use Rattle.claims.specs.Allowed.{never-refused, find-is, search-free, deletes, saves}
-use Rattle.claims.specs.CleanFile.{Clean, clean-loads}
+use Rattle.claims.specs.CleanFile.{clean-loads}
 use Rattle.claims.specs.Examples.{ABC}
 use Rattle.claims.specs.ExamplesHold.{second-done, after-A}
+use Rattle.claims.specs.Terms.{Shows, Created, Clean}
+use Rattle.claims.specs.Drawing.{area, A, B, C, Draws, areaOf}
 
 -- any number but DONE
 abbrev pub Refuses : Answer → Type 0

@@ -6,54 +6,18 @@ use lib.IntN.{ℤ, pos, negsuc}
 use lib.ListN.{length, replicate}
 use lib.Dec.{T, eqb, leb, eqb→eq, leb→le}
 use Rattle.ruler.specs.Ruler.{ruler}
-use Rattle.geometry.specs.Sums.{sumTo}
-use Rattle.geometry.specs.Count.{count}
 use Rattle.geometry.specs.Picture.{SPACE, SOLID, Tile, solidPaint}
+use Rattle.geometry.specs.Counting.{sumTo, count}
 use Rattle.table.specs.Words.{WIDTH, recordsOf, num}
 use Rattle.table.specs.Sound.{Sound, solidsIn, spacesIn}
 use Rattle.table.specs.Decide.{soundb, soundb-sound}
 use Rattle.table.specs.Examples.{one, abc, one-sound, abc-sound}
 use Rattle.seek.specs.Meaning.{Area}
 use Rattle.ushanderi.specs.Promises.{Fit}
-use Rattle.claims.specs.Draws.{Draws}
 use Rattle.claims.specs.Tests.{drawsb, drawsb-draws}
+use Rattle.claims.specs.Drawing.{neg, E, -E, A, B, C, D, W, Draws}
 
 -- ---- rectangles: left, bottom, right, top, and a solid's label
-
-abbrev pub solid : ℤ → ℤ → ℤ → ℤ → ℕ → Tile
-solid l b r t label = record { left = ruler l; bottom = ruler b; right = ruler r; top = ruler t; paint = solidPaint (ruler (pos label)) }
-
-abbrev pub space : ℤ → ℤ → ℤ → ℤ → Tile
-space l b r t = record { left = ruler l; bottom = ruler b; right = ruler r; top = ruler t; paint = record { kind = SPACE; label = ruler (pos 0) } }
-
-abbrev pub area : ℤ → ℤ → ℤ → ℤ → Area
-area l b r t = record { left = ruler l; bottom = ruler b; right = ruler r; top = ruler t }
-
--- 01's E, and words below 0
-abbrev pub neg : ℕ → ℤ
-neg n = negsuc (n - 1)
-
-abbrev pub E : ℤ
-E = pos 16777216
-
-abbrev pub -E : ℤ
--E = neg 16777216
-
-abbrev pub A : Tile
-A = solid (pos 0) (pos 0) (pos 10) (pos 10) 1
-
-abbrev pub B : Tile
-B = solid (pos 20) (pos 0) (pos 30) (pos 10) 2
-
-abbrev pub C : Tile
-C = solid (pos 5) (pos 15) (pos 25) (pos 20) 3
-
--- the gap between A and B as a solid, and the whole plane as one
-abbrev pub D : Tile
-D = solid (pos 10) (pos 0) (pos 20) (pos 10) 4
-
-abbrev pub W : Tile
-W = solid -E -E E E 1
 
 -- ---- tables
 

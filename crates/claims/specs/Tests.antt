@@ -8,8 +8,7 @@ use lib.IntN.{ℤ}
 use lib.ListN.{length, getD}
 use lib.Dec.{T, eqb, leb, ltb, eqb→eq, leb→le, T-not}
 use Rattle.geometry.specs.Cases.{T-and, and-l, and-r}
-use Rattle.geometry.specs.Picture.{SOLID, Tile}
-use Rattle.geometry.specs.Turns.{top}
+use Rattle.geometry.specs.Picture.{SOLID, Tile, top}
 use Rattle.geometry.specs.Tiling.{tile-ext, paint-ext, eq→eqb}
 use Rattle.table.specs.Words.{LEFT, BOTTOM, RIGHT, TOP, KIND, recordsOf, num, tileOf}
 use Rattle.table.specs.Sound.{UsedIn, solidAt, SolidIn}
@@ -20,9 +19,9 @@ use Rattle.seek.specs.Find.{Finds}
 use Rattle.seek.specs.Neighbours
 use Rattle.seek.specs.Neighbours.{Touches, Neighbour, Neighbours}
 use Rattle.ushanderi.specs.Promises.{Fit}
-use Rattle.claims.specs.AgreePicture.{Shows}
 use Rattle.claims.specs.History.{Among}
-use Rattle.claims.specs.Draws.{Draws}
+use Rattle.claims.specs.Terms.{Shows}
+use Rattle.claims.specs.Drawing.{Draws}
 
 -- some number below n passes
 unfoldable pub someBelow : (ℕ → Bool) → ℕ → Bool

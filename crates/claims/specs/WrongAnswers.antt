@@ -8,8 +8,7 @@ use lib.IntN.{ℤ, pos}
 use lib.ListN.{length, getD, take, drop, length-map}
 use lib.Seq.{drop-at}
 use denote.Ref.{now}
-use Rattle.geometry.specs.Picture.{ZERO, InPlane, Has}
-use Rattle.geometry.specs.Turns.{Side, top, right, bottom, left}
+use Rattle.geometry.specs.Picture.{ZERO, InPlane, Has, Side, top, right, bottom, left}
 use Rattle.geometry.specs.Tiling.{space-is}
 use Rattle.table.specs.Words.{LEFT, BOTTOM, RIGHT, TOP, recordsOf, num, tileOf}
 use Rattle.table.specs.Sound.{SizeRight, Sound, UsedIn, capacity, solidsIn, spacesIn, SolidIn, SpaceIn}
@@ -30,11 +29,11 @@ use Rattle.ushanderi.specs.Edits.{labelIn}
 use Rattle.ushanderi.specs.Promises.{Unfit, Fit, FreshSays, CheckSays, ViewSays, FindSays, listed, NeighboursSays, SearchSays, EnumerateSays, CreateRefuses, CreateSays, DeleteSays, SaveSays, LoadStops, LoadSays}
 use Rattle.claims.specs.AgreeChecks.{fit-forms, number-is, number-one, not-done, unfit-not-done}
 use Rattle.claims.specs.AgreeReads.{neighbours-agrees}
-use Rattle.claims.specs.AgreeCreate.{Keeps, edited-fit, create-done, create-agrees}
+use Rattle.claims.specs.AgreeCreate.{edited-fit, create-done, create-agrees}
 use Rattle.claims.specs.AgreeDelete.{delete-done}
-use Rattle.claims.specs.HistoryExact.{Shares}
 use Rattle.claims.specs.Allowed.{deletes}
 use Rattle.claims.specs.Shams.{Refuses, negative}
+use Rattle.claims.specs.Terms.{Keeps, Shares}
 
 same-value : {m n i j : ℕ} → answered m i ≡ answered n j → i ≡ j
 same-value {i = i} {j = j} e = let z : pos i ≡ pos j = ap (λ a. a .value) e in cc

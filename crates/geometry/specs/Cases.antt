@@ -6,6 +6,7 @@ use Prim.Native.Nat.{ℕ, suc, _≤_, _<_}
 use native.Mathlib.Decide.{decLt, ℕ-discrete}
 use native.Mathlib.Omega.{arith}
 use lib.Dec.{T}
+use Rattle.geometry.specs.Counting.{only}
 
 -- cases, with what each proves handed over: no helper is needed at a use
 pub lt-cases : {C : Type 0} (a b : ℕ) → (a < b → C) → (b ≤ a → C) → C
@@ -43,11 +44,6 @@ T-of false f = f tt
 pub T-cases : {C : Type 0} (a : Bool) → (T a → C) → (T (not a) → C) → C
 T-cases true f g = f tt
 T-cases false f g = g tt
-
--- a number where a test passes, and 0 where it fails
-abbrev pub only : Bool → ℕ → ℕ
-only true n = n
-only false n = 0
 
 pub only-T : (b : Bool) {n : ℕ} → T b → only b n ≡ n
 only-T true t = refl

@@ -5,13 +5,9 @@ use Prim.Native.Nat.{ℕ, zero, suc, _+_, _*_, _≤_, _<_, zero-le}
 use native.Mathlib.Nat.{le-refl}
 use native.Mathlib.Omega.{arith}
 use lib.Dec.{T, eqb, eqb→eq, eqb-refl, not-T}
-use Rattle.geometry.specs.Cases.{lt-cases, only, only-le, T-and}
-use Rattle.geometry.specs.Sums.{sumTo, sum-ext, sum-mono, sum-const, sum-mul, sum-prefix, sum-strict}
-
--- how many of 0 .. n - 1 pass a test
-unfoldable pub count : ℕ → (ℕ → Bool) → ℕ
-unfolding sumTo
-count n p = sumTo n (λ k. only (p k) 1)
+use Rattle.geometry.specs.Cases.{lt-cases, only-le, T-and}
+use Rattle.geometry.specs.Sums.{sum-ext, sum-mono, sum-const, sum-mul, sum-prefix, sum-strict}
+use Rattle.geometry.specs.Counting.{only, sumTo, count}
 
 pub count-le : (n : ℕ) (p : ℕ → Bool) → count n p ≤ n
 unfolding count

@@ -6,13 +6,14 @@ use Prim.Native.Nat.{ℕ, _-_, _≤_, _<_}
 use native.Mathlib.Omega.{arith}
 use lib.Dec.{T, T-not}
 use Rattle.geometry.specs.Cases.{T-of}
-use Rattle.geometry.specs.Count.{count, inject}
+use Rattle.geometry.specs.Count.{inject}
 use Rattle.geometry.specs.Picture.{ZERO, SPACE, SOLID, InPlane, Tile, Has, Limits, Solids, In, number, Apart, Free, Run, Strip, TileOf, Used, Drawn}
 use Rattle.geometry.specs.Plane.{Plane, Is, Holds, Formed}
 use Rattle.geometry.specs.Strips.{Space}
 use Rattle.geometry.specs.Runs.{run-span, Within, strip-one, SameSolids, same-strips}
 use Rattle.geometry.specs.StripAt.{held-cases, StripAt, strip-at}
 use Rattle.geometry.specs.Tiling.{planeOf, solidOf, Kinded, Widest, tile-ext, space-alike, first-cell, eq→eqb, is-used, has-holds, holds-has, kind-solid, solid-used}
+use Rattle.geometry.specs.Counting.{count}
 
 module _ (R : ℕ) (tile : ℕ → Tile) (S : Solids) (a : Apart S) (d : Drawn R tile S) where
   abbrev P : Plane

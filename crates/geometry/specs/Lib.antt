@@ -1,4 +1,5 @@
 -- The mathematics of tiles, each file after those that it uses: the reader's page is Picture.
+pub mod Counting
 pub mod Cases
 pub mod Sums
 pub mod Count

@@ -4,8 +4,8 @@ use mathlib.Core.Logic.{_≢_}
 use mathlib.Core.Bool.{Bool}
 use Prim.Native.Nat.{ℕ, _+_, _-_, _≤_, _<_}
 use lib.Dec.{T}
-use Rattle.geometry.specs.Count.{count}
 use Rattle.geometry.specs.declared.Paint.{Paint}
+use Rattle.geometry.specs.Counting.{count}
 
 -- the word 0 on the ruler; E is 01's, and the plane is every cell (x, y) with LOW <= x < HIGH and LOW <= y < HIGH
 abbrev pub ZERO : ℕ
@@ -124,3 +124,13 @@ pub record Drawn (R : ℕ) (tile : ℕ → Tile) (S : Solids) : Type 0 where
   pub each : (i : ℕ) → Used R tile i → TileOf S (tile i)
   pub all : (v : Tile) → TileOf S v → (i : ℕ) × Used R tile i × (tile i ≡ v)
   pub once : (i j : ℕ) → Used R tile i → Used R tile j → tile i ≡ tile j → i ≡ j
+
+-- the one record whose tile holds a cell
+pub record Holder (R : ℕ) (tile : ℕ → Tile) (x y : ℕ) : Type 0 where
+  pub number : ℕ
+  pub used : Used R tile number
+  pub has : Has (tile number) x y
+  pub only : (j : ℕ) → Used R tile j → Has (tile j) x y → j ≡ number
+
+pub data Side : Type 0 where
+  top right bottom left : Side

@@ -5,8 +5,9 @@ use Prim.Native.Nat.{ℕ, zero, suc, _+_, _-_, _*_, _≤_, _<_}
 use native.Mathlib.Nat.{le-refl, mul-zero, mul-one, mul-le-mul, add-sub-of-le, add-zero}
 use native.Mathlib.Omega.{arith}
 use lib.Dec.{T}
-use Rattle.geometry.specs.Cases.{lt-cases, only, only-T, only-le, T-only}
-use Rattle.geometry.specs.Sums.{sumTo, sum-ext, sum-mono, sum-const, sum-mul, sum-mul-right, sum-swap, sum-tight, sum-one, sum-le-one, sum-inb, inb, sum-prefix}
+use Rattle.geometry.specs.Cases.{lt-cases, only-T, only-le, T-only}
+use Rattle.geometry.specs.Sums.{sum-ext, sum-mono, sum-const, sum-mul, sum-mul-right, sum-swap, sum-tight, sum-one, sum-le-one, sum-inb, inb, sum-prefix}
+use Rattle.geometry.specs.Counting.{only, sumTo}
 
 -- R tiles over the cells (x, y) with lo ≤ x < lo + W and lo ≤ y < lo + W
 pub record Plane : Type 0 where

@@ -6,10 +6,11 @@ use mathlib.Core.Logic.{_⊎_, inl, inr}
 use Prim.Native.Nat.{ℕ, zero, suc, _+_, _-_, _*_, _≤_, _<_}
 use native.Mathlib.Omega.{arith}
 use lib.Dec.{T, T-not}
-use Rattle.geometry.specs.Cases.{lt-cases, eq-cases, only, only-T, T-and, and-l, and-r, T-of, T-cases}
+use Rattle.geometry.specs.Cases.{lt-cases, eq-cases, only-T, T-and, and-l, and-r, T-of, T-cases}
 use Rattle.geometry.specs.Sums.{sum-head}
-use Rattle.geometry.specs.Count.{count, sum-weight, rooms}
+use Rattle.geometry.specs.Count.{sum-weight, rooms}
 use Rattle.geometry.specs.Plane.{Plane, Is, At, Holds, WellFormed, Covered, Disjoint, hi}
+use Rattle.geometry.specs.Counting.{only, count}
 
 pub record Space (P : Plane) (solid : ℕ → Bool) (i : ℕ) : Type 0 where
   pub is : Is P i

@@ -6,12 +6,13 @@ use Prim.Native.Nat.{ℕ, _+_, _*_, _≤_, _<_}
 use native.Mathlib.Omega.{arith}
 use lib.Dec.{T, eqb, eqb→eq, eqb-refl, T-not, not-T}
 use Rattle.geometry.specs.Cases.{T-and, and-r}
-use Rattle.geometry.specs.Count.{count, count-mono}
-use Rattle.geometry.specs.Picture.{ZERO, E, LOW, FREE, SPACE, SOLID, InPlane, Tile, Has, Solids, SpacePaint, Used}
+use Rattle.geometry.specs.Count.{count-mono}
+use Rattle.geometry.specs.Picture.{ZERO, E, LOW, FREE, SPACE, SOLID, InPlane, Tile, Has, Solids, SpacePaint, Used, Holder}
 use Rattle.geometry.specs.declared.Paint.{Paint}
 use Rattle.geometry.specs.Plane.{Plane, Is, Holds}
 use Rattle.geometry.specs.Runs.{SameSides}
 use Rattle.geometry.specs.Strips.{Space, Strips, solids, spaces, three-n-plus-one}
+use Rattle.geometry.specs.Counting.{count}
 
 abbrev pub planeOf : ℕ → (ℕ → Tile) → Plane
 planeOf R tile =
@@ -123,13 +124,6 @@ module _ (R : ℕ) (tile : ℕ → Tile) where
     where
       spaced : (i : ℕ) → i < R → tile i .paint .kind ≡ SPACE → T (spaces (planeOf R tile) (solidOf tile) i)
       spaced i h e = let u = space-is i h e in T-and (planeOf R tile .used i) (not (solidOf tile i)) (u .is .used) (u .space)
-
--- the one record whose tile holds a cell
-pub record Holder (R : ℕ) (tile : ℕ → Tile) (x y : ℕ) : Type 0 where
-  pub number : ℕ
-  pub used : Used R tile number
-  pub has : Has (tile number) x y
-  pub only : (j : ℕ) → Used R tile j → Has (tile j) x y → j ≡ number
 
 pub one-holder : (R : ℕ) (tile : ℕ → Tile) → Widest R tile → (x y : ℕ) → InPlane x y → Holder R tile x y
 one-holder R tile w x y p =

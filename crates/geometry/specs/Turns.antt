@@ -4,6 +4,7 @@ use Prim.Native.Nat.{ℕ, _+_, _-_, _≤_, _<_}
 use native.Mathlib.Omega.{arith}
 use Rattle.geometry.specs.Plane.{Plane, Cell, Is, Holds, WellFormed}
 use Rattle.geometry.specs.Stitches.{Stitches, Up, Down, Good}
+use Rattle.geometry.specs.Picture.{Side, top, right, bottom, left}
 
 abbrev pub swap : Plane → Plane
 swap P = record { R = P .R; lo = P .lo; W = P .W; used = P .used; l = P .b; b = P .l; r = P .t; t = P .r }
@@ -139,9 +140,6 @@ good-turn P Z g = record {
 }
 
 -- ---- the four sides
-
-pub data Side : Type 0 where
-  top right bottom left : Side
 
 abbrev pub seen : Side → Plane → Plane
 seen top P = P

@@ -9,9 +9,10 @@ use lib.IntN.{ℤ}
 use lib.ListN.{length, getD, drop}
 use Rattle.geometry.specs.Cases.{lt-cases}
 use Rattle.geometry.specs.Sums.{sum-const}
-use Rattle.geometry.specs.Count.{count, inject, pigeonhole}
+use Rattle.geometry.specs.Count.{inject, pigeonhole}
 use Rattle.geometry.specs.Picture.{SOLID}
 use Rattle.geometry.specs.Tiling.{eq→eqb}
+use Rattle.geometry.specs.Counting.{count}
 use Rattle.table.specs.Words.{KIND, recordsOf, num}
 use Rattle.table.specs.Sound.{SizeRight, solidAt, solidsIn, SolidIn}
 use Rattle.table.specs.Forms.{Forms}

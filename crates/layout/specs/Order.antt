@@ -1,7 +1,7 @@
 -- The order of a saved layout, as 01 says it, and what save writes: what a reader must believe about save. Assumes nothing.
 use mathlib.Core.Path.{_≡_}
 use mathlib.Core.List.{List, _++_, map}
-use Prim.Native.Nat.{ℕ, _*_, _<_}
+use Prim.Native.Nat.{ℕ, _*_, _<_, _^_}
 use lib.IntN.{ℤ}
 use lib.ListN.{length, drop}
 use Rattle.table.specs.Words.{LEFT, BOTTOM, RIGHT, TOP, LABEL, num}
@@ -26,3 +26,7 @@ pub record Saves (t : List ℤ) (out out′ : List ℕ) (bytes : ℕ) : Type 0 w
   pub lists : Lists (SolidIn t) (Comes t) solids
   pub number : bytes ≡ 20 * length solids
   pub writes : out′ ≡ fileBytes (map (savedOf t) solids) ++ drop bytes out
+
+-- every label is a word's
+abbrev pub LabelsFit : List ℤ → Type 0
+LabelsFit t = (i : ℕ) → SolidIn t i → num t i LABEL < 2 ^ 32

@@ -12,12 +12,8 @@ use Rattle.table.specs.Forms.{Forms}
 use Rattle.seek.specs.Meaning.{Lists}
 use Rattle.layout.specs.declared.bytes.Saved.{Saved}
 use Rattle.layout.specs.Bytes.{SavedFits, AllFit}
-use Rattle.layout.specs.Order.{Comes, savedOf}
+use Rattle.layout.specs.Order.{Comes, savedOf, LabelsFit}
 use Rattle.layout.specs.Keys.{solid-formed}
-
--- every label is a word's
-abbrev pub LabelsFit : List ℤ → Type 0
-LabelsFit t = (i : ℕ) → SolidIn t i → num t i LABEL < 2 ^ 32
 
 module _ (t : List ℤ) (f : Forms t) (a : LabelsFit t) where
   saved-fits : (i : ℕ) → SolidIn t i → SavedFits (savedOf t i)

@@ -22,9 +22,9 @@ use Rattle.seek.specs.Once.{times, times-here, times-other, directed-short}
 use Rattle.seek.specs.Order.{directed-lists}
 use Rattle.layout.specs.Patch.{patch-none, patch-start, Puts, puts-then}
 use Rattle.lister.specs.Text.{lineOf, refusedLine}
-use Rattle.ushanderi.specs.Answers.{DONE, answered, accepted}
+use Rattle.ushanderi.specs.Answers.{DONE, answered, accepted, rulerArea}
 use Rattle.ushanderi.specs.Promises.{Unfit, Fit, EnumerateSays, LoadSays, listed}
-use Rattle.ushanderi.specs.Reading.{rulerArea, fit-forms}
+use Rattle.ushanderi.specs.Reading.{fit-forms}
 use Rattle.ushanderi.specs.Layouts.{Ends, load-ends}
 use Rattle.ushanderi.specs.declared.answer.Answer.{Answer}
 

@@ -6,9 +6,10 @@ use native.Mathlib.Omega.{arith}
 use lib.IntN.{ℤ}
 use lib.ListN.{length}
 use lib.Dec.{eqb→eq}
-use Rattle.geometry.specs.Count.{count, count-mono}
+use Rattle.geometry.specs.Count.{count-mono}
 use Rattle.geometry.specs.Picture.{ZERO, SOLID, solidPaint}
 use Rattle.geometry.specs.Tiling.{eq→eqb}
+use Rattle.geometry.specs.Counting.{count}
 use Rattle.table.specs.Words.{WIDTH, KIND, recordsOf, num}
 use Rattle.table.specs.Sound.{UsedIn, capacity, solidAt, solidsIn, SolidIn}
 use Rattle.seek.specs.Meaning.{RectRight, FreeArea, First}

@@ -6,7 +6,7 @@ use native.Mathlib.Omega.{arith}
 use lib.IntN.{ℤ}
 use lib.ListN.{length, drop, length-map}
 use Rattle.geometry.specs.Cases.{lt-cases}
-use Rattle.geometry.specs.Turns.{Side}
+use Rattle.geometry.specs.Picture.{Side}
 use Rattle.table.specs.Words.{recordsOf}
 use Rattle.table.specs.Sound.{UsedIn}
 use Rattle.table.specs.Forms.{Forms}

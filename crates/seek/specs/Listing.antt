@@ -8,8 +8,7 @@ use lib.IntN.{ℤ, pos}
 use lib.ListN.{length, getD, set, length-set}
 use lib.Seq.{ext-getD, getD-set-same, getD-set-other}
 use Rattle.geometry.specs.Cases.{lt-cases, eq-cases}
-use Rattle.geometry.specs.Picture.{ZERO, HIGH}
-use Rattle.geometry.specs.Turns.{Side}
+use Rattle.geometry.specs.Picture.{ZERO, HIGH, Side}
 use Rattle.table.specs.Sound.{SizeRight, UsedIn}
 use Rattle.table.specs.Forms.{Forms}
 use Rattle.seek.specs.Neighbours.{Neighbours}

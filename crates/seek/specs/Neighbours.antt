@@ -3,8 +3,7 @@ use mathlib.Core.Path.{_≡_}
 use mathlib.Core.List.{List}
 use Prim.Native.Nat.{ℕ, zero, suc, _≤_, _<_}
 use lib.IntN.{ℤ, pos}
-use Rattle.geometry.specs.Picture.{Tile}
-use Rattle.geometry.specs.Turns.{Side, top, right, bottom, left}
+use Rattle.geometry.specs.Picture.{Tile, Side, top, right, bottom, left}
 use Rattle.table.specs.Words.{tileOf}
 use Rattle.table.specs.Sound.{UsedIn}
 use Rattle.seek.specs.Meaning.{Lists}

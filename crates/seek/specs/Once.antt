@@ -8,8 +8,9 @@ use native.Mathlib.Omega.{arith}
 use lib.IntN.{ℤ}
 use lib.ListN.{length, getD}
 use lib.Dec.{T, eqb, eqb→eq, eqb-refl}
-use Rattle.geometry.specs.Cases.{lt-cases, eq-cases, only, only-T}
-use Rattle.geometry.specs.Sums.{sumTo, sum-mono, sum-const, sum-add, sum-set}
+use Rattle.geometry.specs.Cases.{lt-cases, eq-cases, only-T}
+use Rattle.geometry.specs.Sums.{sum-mono, sum-const, sum-add, sum-set}
+use Rattle.geometry.specs.Counting.{only, sumTo}
 use Rattle.table.specs.Words.{recordsOf}
 use Rattle.table.specs.Sound.{UsedIn}
 use Rattle.table.specs.Forms.{Forms}

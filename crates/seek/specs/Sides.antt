@@ -6,9 +6,10 @@ use native.Mathlib.Omega.{arith}
 use lib.IntN.{ℤ}
 use Rattle.geometry.specs.Plane.{Plane, Is, Formed}
 use Rattle.geometry.specs.Stitches.{Stitches, Good}
-use Rattle.geometry.specs.Turns.{Side, top, right, bottom, left, seen, seen-stitches, good-seen}
+use Rattle.geometry.specs.Turns.{seen, seen-stitches, good-seen}
 use Rattle.geometry.specs.Walk.{Stands}
 use Rattle.geometry.specs.Listed.{Listed, entry, listed-some, listed-one}
+use Rattle.geometry.specs.Picture.{Side, top, right, bottom, left}
 use Rattle.table.specs.Words.{tileOf}
 use Rattle.table.specs.Sound.{UsedIn}
 use Rattle.table.specs.Forms.{planeIn, stitchesIn, Forms, used-is, is-used}

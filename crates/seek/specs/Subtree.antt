@@ -7,9 +7,9 @@ use Prim.Native.Nat.{ℕ, _+_, _-_, _≤_, _<_, min, max}
 use native.Mathlib.Omega.{arith}
 use lib.IntN.{ℤ}
 use lib.ListN.{length, getD, take, drop}
-use Rattle.geometry.specs.Cases.{lt-cases, only}
-use Rattle.geometry.specs.Picture.{LOW, HIGH}
-use Rattle.geometry.specs.Turns.{right}
+use Rattle.geometry.specs.Cases.{lt-cases}
+use Rattle.geometry.specs.Picture.{LOW, HIGH, right}
+use Rattle.geometry.specs.Counting.{only}
 use Rattle.table.specs.Words.{LEFT, BOTTOM, RIGHT, TOP, recordsOf, num}
 use Rattle.table.specs.Forms.{Forms, is-used}
 use Rattle.seek.specs.Meaning.{Area, Over, Meets, Hangs, tree, none, more}

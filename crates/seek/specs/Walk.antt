@@ -7,10 +7,10 @@ use Prim.Native.Nat.{ℕ, zero, suc, _+_, _-_, _*_, _≤_, _<_}
 use native.Mathlib.Omega.{arith}
 use lib.IntN.{ℤ}
 use lib.ListN.{length, getD}
-use Rattle.geometry.specs.Picture.{LOW, HIGH}
+use Rattle.geometry.specs.Picture.{LOW, HIGH, Side, top, right, bottom, left}
 use Rattle.geometry.specs.Plane.{Plane, hi}
 use Rattle.geometry.specs.Stitches.{Stitches}
-use Rattle.geometry.specs.Turns.{Side, top, right, bottom, left, seen, seen-stitches}
+use Rattle.geometry.specs.Turns.{seen, seen-stitches}
 use Rattle.geometry.specs.Listed.{Listed, entry, listed-none, listed-first, listed-last, listed-next, listed-short}
 use Rattle.table.specs.Words.{WIDTH, recordsOf, num, LEFT, BOTTOM, RIGHT, TOP, TR, RT, BL, LB}
 use Rattle.table.specs.Sound.{SizeRight, UsedIn}

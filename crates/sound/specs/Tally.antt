@@ -11,11 +11,9 @@ use borrow.Author.Count.{below-none, below-more}
 use borrow.Author.Tests.{eq-eqb, ne-eqb}
 use lib.Dec.{T, eqb}
 use lib.IntN.{ℤ}
-use Rattle.geometry.specs.Cases.{only}
-use Rattle.geometry.specs.Sums.{sumTo}
-use Rattle.geometry.specs.Count.{count}
 use Rattle.geometry.specs.Picture.{FREE, SOLID, Has}
 use Rattle.geometry.specs.Plane.{area, Formed}
+use Rattle.geometry.specs.Counting.{only, sumTo, count}
 use Rattle.table.specs.Words.{LEFT, BOTTOM, RIGHT, TOP, KIND, num, recordsOf, tileOf}
 use Rattle.table.specs.Sound.{solidAt, solidsIn}
 use Rattle.table.specs.Forms.{planeIn}

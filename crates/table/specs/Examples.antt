@@ -6,8 +6,7 @@ use native.Mathlib.Omega.{arith}
 use lib.IntN.{ℤ, pos, negsuc}
 use lib.ListN.{set, replicate}
 use Rattle.ruler.specs.Ruler.{ruler}
-use Rattle.geometry.specs.Sums.{sumTo}
-use Rattle.geometry.specs.Count.{count}
+use Rattle.geometry.specs.Counting.{sumTo, count}
 use Rattle.table.specs.Words.{WIDTH, RT, LABEL, num}
 use Rattle.table.specs.Sound.{Sound, solidsIn, spacesIn}
 use Rattle.table.specs.Fresh.{freshTable}

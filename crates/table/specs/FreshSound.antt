@@ -8,13 +8,14 @@ use lib.IntN.{ℤ, pos}
 use lib.ListN.{length, getD, replicate, length-replicate}
 use lib.Dec.{T, eqb, eqb→eq}
 use Rattle.ruler.specs.Ruler.{ruler}
-use Rattle.geometry.specs.Cases.{only, T-only, only-T, only-le}
+use Rattle.geometry.specs.Cases.{T-only, only-T, only-le}
 use Rattle.geometry.specs.Sums.{sum-const, sum-prefix, sum-le-one}
-use Rattle.geometry.specs.Count.{count, count-mono}
+use Rattle.geometry.specs.Count.{count-mono}
 use Rattle.geometry.specs.Picture.{ZERO, LOW, HIGH, FREE, SPACE, SOLID}
 use Rattle.geometry.specs.Plane.{Is}
 use Rattle.geometry.specs.Tiling.{Kinded, Widest}
 use Rattle.geometry.specs.Stitches.{Good}
+use Rattle.geometry.specs.Counting.{only, count}
 use Rattle.table.specs.Words.{WIDTH, LEFT, BOTTOM, RIGHT, TOP, TR, RT, BL, LB, KIND, LABEL, recordsOf, num, tileOf, MOST}
 use Rattle.table.specs.Sound.{UsedIn, NONE, Zeros, Sound, solidAt, spaceAt, solidsIn, spacesIn}
 use Rattle.table.specs.Fresh.{freshTable}

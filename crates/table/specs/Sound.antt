@@ -6,8 +6,8 @@ use Prim.Native.Nat.{ℕ, _-_, _/_, _%_, _≤_, _<_}
 use lib.IntN.{ℤ}
 use lib.ListN.{length}
 use lib.Dec.{eqb}
-use Rattle.geometry.specs.Count.{count}
 use Rattle.geometry.specs.Picture.{ZERO, FREE, SPACE, SOLID, InPlane, Has, Solids, number, Apart, Used, Drawn}
+use Rattle.geometry.specs.Counting.{count}
 use Rattle.table.specs.Words.{WIDTH, LEFT, BOTTOM, RIGHT, TOP, TR, RT, BL, LB, KIND, recordsOf, num, tileOf, LEAST, MOST}
 
 -- a whole number of records, 20 to 4,016 of them

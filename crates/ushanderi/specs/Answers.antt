@@ -1,7 +1,11 @@
 -- 01's table of answers: each number by its name, and what an answer carries. Assumes nothing.
 use Prim.Native.Nat.{ℕ}
-use lib.IntN.{pos, negsuc}
+use lib.IntN.{pos, negsuc, ℤ}
 use Rattle.ushanderi.specs.declared.answer.Answer.{Answer}
+use Rattle.seek.specs.Meaning.{Area}
+use Rattle.ushanderi.specs.declared.reading.Found.the-variants.{At, Point, Size, Unsound}
+use Rattle.ushanderi.specs.declared.reading.Found.{Found}
+use Rattle.ruler.specs.Ruler.{ruler}
 
 abbrev pub DONE : ℕ
 DONE = 0
@@ -55,3 +59,14 @@ refused number = answered number 0
 -- area search's value where the rectangle is free: -1
 abbrev pub nothing : Answer
 nothing = record { number = pos DONE; value = negsuc 0 }
+
+-- the number and the value of each case of a find
+abbrev pub foundAnswer : Found → Answer
+foundAnswer (At i) = accepted i
+foundAnswer Size = refused SIZE
+foundAnswer Unsound = refused UNSOUND
+foundAnswer Point = refused POINT
+
+-- the four words of a rectangle on the ruler
+abbrev pub rulerArea : ℤ → ℤ → ℤ → ℤ → Area
+rulerArea left bottom right top = record { left = ruler left; bottom = ruler bottom; right = ruler right; top = ruler top }

@@ -10,11 +10,11 @@ use borrow.Author.Tests.{eq-eqb, ne-eqb}
 use mir.Syntax.{w32}
 use mir.Val.{SFits, toZ, ofZ}
 use Rattle.ruler.specs.Ruler.{ruler, ruler-bits}
-use Rattle.geometry.specs.Cases.{eq-cases, only}
+use Rattle.geometry.specs.Cases.{eq-cases}
 use Rattle.geometry.specs.Sums.{sum-set}
-use Rattle.geometry.specs.Count.{count}
 use Rattle.geometry.specs.Picture.{ZERO, SOLID, Tile}
 use Rattle.geometry.specs.Tiling.{Kinded, tile-ext}
+use Rattle.geometry.specs.Counting.{only, count}
 use Rattle.table.specs.Words.{KIND, recordsOf, num, tileOf}
 use Rattle.table.specs.Words
 use Rattle.table.specs.Sound.{UsedIn, capacity, solidAt, solidsIn, SolidIn, SpaceIn}
@@ -24,10 +24,10 @@ use Rattle.seek.specs.Find.{Finds}
 use Rattle.edit.specs.Tidy.{SameTile}
 use Rattle.edit.specs.Create.{CanLay, Creates, creates-new}
 use Rattle.edit.specs.Delete.{Deletes, CanShrink, shrink-room}
-use Rattle.ushanderi.specs.Answers.{SIZE, UNSOUND, RECT, LABEL, OCCUPIED, FULL, answered, accepted}
+use Rattle.ushanderi.specs.Answers.{SIZE, UNSOUND, RECT, LABEL, OCCUPIED, FULL, answered, accepted, foundAnswer}
 use Rattle.ushanderi.specs.Edits.{drawn, Adds, Removes, Edited, labelIn}
 use Rattle.ushanderi.specs.Promises.{Unfit, Fit, FindSays, CreateRefuses, CreateAllows, CreateDone, CreateSays, DeleteRefuses, DeleteAllows, DeleteSays}
-use Rattle.ushanderi.specs.Reading.{foundAnswer, fit-forms, low-record, NotFound, found-at}
+use Rattle.ushanderi.specs.Reading.{fit-forms, low-record, NotFound, found-at}
 use Rattle.ushanderi.specs.declared.answer.Answer.{Answer}
 use Rattle.ushanderi.specs.declared.reading.Found.{Found}
 use Rattle.ushanderi.specs.declared.editing.MayCreate.{MayCreate}

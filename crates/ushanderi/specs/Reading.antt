@@ -13,7 +13,7 @@ use Rattle.table.specs.Sound.{SizeRight, solidsIn}
 use Rattle.table.specs.Forms.{Forms, sound-forms}
 use Rattle.seek.specs.Meaning.{Area}
 use Rattle.seek.specs.Find.{Finds}
-use Rattle.ushanderi.specs.Answers.{SIZE, UNSOUND, POINT, accepted, refused}
+use Rattle.ushanderi.specs.Answers.{SIZE, UNSOUND, POINT, accepted, refused, foundAnswer}
 use Rattle.ushanderi.specs.Promises.{Unfit, Fit, FindSays}
 use Rattle.ushanderi.specs.Entry.{Admits, size, unsound, fit, entryAnswer}
 use Rattle.ushanderi.specs.declared.answer.Answer.{Answer}
@@ -21,17 +21,6 @@ use Rattle.ushanderi.specs.declared.entry.Entry.{Entry}
 use Rattle.ushanderi.specs.declared.entry.Entry.the-variants as Entries
 use Rattle.ushanderi.specs.declared.reading.Found.{Found}
 use Rattle.ushanderi.specs.declared.reading.Found.the-variants.{At, Size, Unsound, Point}
-
--- the number and the value of each case of a find
-abbrev pub foundAnswer : Found → Answer
-foundAnswer (At i) = accepted i
-foundAnswer Size = refused SIZE
-foundAnswer Unsound = refused UNSOUND
-foundAnswer Point = refused POINT
-
--- the four words of a rectangle on the ruler
-abbrev pub rulerArea : ℤ → ℤ → ℤ → ℤ → Area
-rulerArea left bottom right top = record { left = ruler left; bottom = ruler bottom; right = ruler right; top = ruler top }
 
 -- ---- the checks 1 and 2
 

@@ -16,10 +16,10 @@ use Rattle.seek.specs.Enumerate.{WritesArea, CountsArea, counts-area-one, count
 use Rattle.seek.specs.declared.area.Seen.{Seen}
 use Rattle.seek.specs.declared.area.Seen.the-variants as Seens
 use Rattle.ushanderi.specs.Answers
-use Rattle.ushanderi.specs.Answers.{SHORT, accepted, answered}
+use Rattle.ushanderi.specs.Answers.{SHORT, accepted, answered, rulerArea}
 use Rattle.ushanderi.specs.Promises.{Fit, SearchSays, EnumerateSays}
 use Rattle.ushanderi.specs.declared.answer.Answer.{Answer}
-use Rattle.ushanderi.specs.Reading.{rulerArea, fit-forms, low-record}
+use Rattle.ushanderi.specs.Reading.{fit-forms, low-record}
 
 -- ---- the four words of a rectangle
 

@@ -11,9 +11,9 @@ use mir.Val.{SFits, toZ, ofZ}
 use mir.Facts.{toZ-ofZ}
 use Rattle.ruler.specs.Ruler.{ruler, ruler-bits, ruler-pos, pos-ruler}
 use Rattle.geometry.specs.Cases.{lt-cases}
-use Rattle.geometry.specs.Picture.{ZERO, InPlane}
-use Rattle.geometry.specs.Turns
-use Rattle.geometry.specs.Turns.{Side, seen, seen-stitches}
+use Rattle.geometry.specs.Picture.{ZERO, InPlane, Side}
+use Rattle.geometry.specs.Picture
+use Rattle.geometry.specs.Turns.{seen, seen-stitches}
 use Rattle.geometry.specs.Listed.{entry, listed-short}
 use Rattle.table.specs.Sound.{UsedIn}
 use Rattle.table.specs.Forms.{planeIn, stitchesIn, Forms, used-is}
@@ -21,11 +21,11 @@ use Rattle.seek.specs.Find.{Finds}
 use Rattle.seek.specs.Neighbours.{IsSide, sideOf, Neighbours}
 use Rattle.seek.specs.Sides.{good, sees-is, neighbours-listed, neighbours-one}
 use Rattle.seek.specs.Listing.{Counts, Written, Lists}
-use Rattle.ushanderi.specs.Answers.{SHORT, accepted, answered}
+use Rattle.ushanderi.specs.Answers.{SHORT, accepted, answered, foundAnswer}
 use Rattle.ushanderi.specs.Promises.{Fit, FindSays, listed, NeighboursSays}
 use Rattle.ushanderi.specs.declared.answer.Answer.{Answer}
 use Rattle.ushanderi.specs.declared.reading.Found.{Found}
-use Rattle.ushanderi.specs.Reading.{foundAnswer, NotFound, found-at}
+use Rattle.ushanderi.specs.Reading.{NotFound, found-at}
 
 pub refused-neighbours : (t : List ℤ) (x y : ℕ) (side : ℤ) (out : List ℤ) (f : Found) → FindSays t x y (foundAnswer f) → NotFound f
     → NeighboursSays t x y side out out (foundAnswer f)
@@ -59,10 +59,10 @@ finds-in-plane t f x y i h = let w = f .good .formed i (used-is t i (h .used)) i
 
 -- a tile has no more neighbours on a side than the plane has columns, or rows
 width : (t : List ℤ) (s : Side) → seen s (planeIn t) .W ≡ 33554432
-width t Turns.top = refl
-width t Turns.right = refl
-width t Turns.bottom = refl
-width t Turns.left = refl
+width t Picture.top = refl
+width t Picture.right = refl
+width t Picture.bottom = refl
+width t Picture.left = refl
 
 neighbours-short : (t : List ℤ) → Forms t → (s : Side) (i : ℕ) → UsedIn t i → (ks : List ℕ) → Neighbours t s i ks → length ks < 2 ^ 31
 neighbours-short t f s i u ks l = lt-cases 0 (length ks) last (λ h. omega arith)

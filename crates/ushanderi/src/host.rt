@@ -2,7 +2,7 @@
 ghost use Rattle.ruler.specs.Ruler.{ruler};
 ghost use Rattle.table.specs.View.{Places};
 ghost use Rattle.ushanderi.specs.Promises.{FreshSays, CheckSays, FindSays, NeighboursSays, SearchSays, EnumerateSays, CreateSays, DeleteSays, SaveSays, LoadSays};
-ghost use Rattle.ushanderi.specs.Reading.{rulerArea};
+ghost use Rattle.ushanderi.specs.Answers.{rulerArea};
 use crate::answer::Answer;
 use crate::editing;
 use crate::layouts;

@@ -4,10 +4,11 @@ use Rattle.ruler.specs.Ruler.{ruler-bits}
 use Rattle.ushanderi.specs.Reading.{size-unfit, unsound-unfit}
 use Rattle.ushanderi.specs.Promises.{FindSays}
 use Rattle.ushanderi.specs.Entry.{admits-fit}
-use Rattle.ushanderi.specs.Reading.{foundAnswer, size-unfit, unsound-unfit}
+use Rattle.ushanderi.specs.Reading.{size-unfit, unsound-unfit}
 use borrow.Author.Needs.{needs}
 use Rattle.ushanderi.proofs.reading.find.Statement.{statement}
 use Rattle.ushanderi.proofs.reading.find.Tie as tie
+use Rattle.ushanderi.specs.Answers.{foundAnswer}
 
 admit-requires : tie.Need-admit-requires
 admit-requires c κs = search needs

@@ -1,9 +1,9 @@
 -- `ushanderi::reading::found_answer` meets its contract, case by case. Assumes nothing.
 use mathlib.Core.Path.{sym, ap, _∙_}
-use Rattle.ushanderi.specs.Reading.{foundAnswer}
 use borrow.Author.Needs.{needs}
 use Rattle.ushanderi.proofs.reading.found_answer.Statement.{statement}
 use Rattle.ushanderi.proofs.reading.found_answer.Tie as tie
+use Rattle.ushanderi.specs.Answers.{foundAnswer}
 
 enum-known-f : tie.Need-enum-known-f
 enum-known-f c = search needs

@@ -58,11 +58,11 @@ module _ (t : List ℤ) (s : SizeRight t) (bs : List ℕ) where
       (λ d. step-of k w b m (omega arith))
 
   -- a record at which the load is refused
-  record Stop (n number : ℕ) : Type 0 where
-    before : List ℤ
-    built : Built (length t) bs n before
-    value : ℕ
-    refuses : CreateRefuses before (areaIn bs n) (savedAt bs n .label) (answered number value)
+  pub record Stop (n number : ℕ) : Type 0 where
+    pub before : List ℤ
+    pub built : Built (length t) bs n before
+    pub value : ℕ
+    pub refuses : CreateRefuses before (areaIn bs n) (savedAt bs n .label) (answered number value)
 
   no-step : (n number : ℕ) → Stop n number → Step n → ⊥
   no-step n number p q =

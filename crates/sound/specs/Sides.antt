@@ -1,4 +1,4 @@
--- The third pass: the left column, the right side of each tile, and what lies above each space tile. Assumes nothing.
+-- The second pass: the left column, the right side of each tile, and what lies above each space tile. Assumes nothing.
 use mathlib.Core.Path.{_≡_, sym}
 use mathlib.Core.Logic.{_≢_, _↔_}
 use mathlib.Core.Bool.{Bool, true, false}

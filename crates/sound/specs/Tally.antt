@@ -24,9 +24,13 @@ use Rattle.table.specs.declared.Record.{Record}
 use Rattle.sound.specs.Records.{Well, AllWell}
 use Rattle.sound.specs.Links.{Linked, Ready, Tested, all-stitched}
 
+-- the cells of record k's rectangle
+abbrev rectangle : List ℤ → ℕ → ℕ
+rectangle t k = (num t k RIGHT - num t k LEFT) * (num t k TOP - num t k BOTTOM)
+
 -- the cells of record k, if it is used, and whether it is a solid
 unfoldable pub cells : List ℤ → ℕ → ℕ
-cells t k = only (not (eqb (num t k KIND) FREE)) ((num t k RIGHT - num t k LEFT) * (num t k TOP - num t k BOTTOM))
+cells t k = only (not (eqb (num t k KIND) FREE)) (rectangle t k)
 
 unfoldable pub one : List ℤ → ℕ → ℕ
 one t k = only (solidAt t k) 1
@@ -48,7 +52,7 @@ solidsTo t n = count n (solidAt t)
 
 cells-free : (t : List ℤ) (k : ℕ) → num t k KIND ≡ FREE → cells t k ≡ 0
 unfolding cells
-cells-free t k e = ap (λ b. only (not b) ((num t k RIGHT - num t k LEFT) * (num t k TOP - num t k BOTTOM))) (eq-eqb (num t k KIND) FREE e)
+cells-free t k e = ap (λ b. only (not b) (rectangle t k)) (eq-eqb (num t k KIND) FREE e)
 
 -- a product of two sides of the plane
 pub in-square : (m n : ℕ) → m ≤ 2 ^ 25 → n ≤ 2 ^ 25 → m * n ≤ 2 ^ 50
@@ -67,23 +71,23 @@ free-spans t k z = omega (arith, z LEFT (omega arith), z BOTTOM (omega arith), z
 pub well-spans : (t : List ℤ) (k : ℕ) → Well t k → Spans t k
 well-spans t k w = eq-cases (num t k KIND) FREE (λ e. free-spans t k (w .blank e)) (λ n. let f = w .formed n in omega arith)
 
-free-product : (t : List ℤ) (k : ℕ) → Zeros t k → (num t k RIGHT - num t k LEFT) * (num t k TOP - num t k BOTTOM) ≡ 0
-free-product t k z =
+free-rectangle : (t : List ℤ) (k : ℕ) → Zeros t k → rectangle t k ≡ 0
+free-rectangle t k z =
     let e : num t k RIGHT - num t k LEFT ≡ 0 = omega (arith, z LEFT (omega arith), z RIGHT (omega arith)) in
     ap (λ n. n * (num t k TOP - num t k BOTTOM)) e ∙ zero-mul (num t k TOP - num t k BOTTOM)
 
-cells-product : (t : List ℤ) (k : ℕ) → Well t k → (num t k RIGHT - num t k LEFT) * (num t k TOP - num t k BOTTOM) ≡ cells t k
+cells-rectangle : (t : List ℤ) (k : ℕ) → Well t k → rectangle t k ≡ cells t k
 unfolding cells
-cells-product t k w =
+cells-rectangle t k w =
     eq-cases (num t k KIND) FREE
-    (λ e. free-product t k (w .blank e) ∙ sym (cells-free t k e))
-    (λ n. sym (ap (λ b. only (not b) ((num t k RIGHT - num t k LEFT) * (num t k TOP - num t k BOTTOM))) (ne-eqb (num t k KIND) FREE n)))
+    (λ e. free-rectangle t k (w .blank e) ∙ sym (cells-free t k e))
+    (λ n. sym (ap (λ b. only (not b) (rectangle t k)) (ne-eqb (num t k KIND) FREE n)))
 
 pub cells-are : (t : List ℤ) (k : ℕ) (v : Record) → Reads t k v → Well t k → CellsAre t k ((v .right - v .left) * (v .top - v .bottom))
 cells-are t k v h w =
     let s = well-spans t k w in
     record {
-      is = ap₂ _*_ (ap₂ _-_ (h .right) (h .left)) (ap₂ _-_ (h .top) (h .bottom)) ∙ cells-product t k w;
+      is = ap₂ _*_ (ap₂ _-_ (h .right) (h .left)) (ap₂ _-_ (h .top) (h .bottom)) ∙ cells-rectangle t k w;
       fits = in-square (v .right - v .left) (v .top - v .bottom) (omega arith) (omega arith);
     }
 

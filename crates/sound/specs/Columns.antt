@@ -7,21 +7,11 @@ use native.Mathlib.Omega.{arith}
 use lib.Dec.{T}
 use lib.IntN.{ℤ}
 use Rattle.geometry.specs.Cases.{lt-cases}
-use Rattle.geometry.specs.Picture.{ZERO, LOW, SPACE, SOLID, Has}
-use Rattle.geometry.specs.Plane.{Formed}
+use Rattle.geometry.specs.Picture.{LOW, SPACE, SOLID, Has}
 use Rattle.table.specs.Words.{LEFT, BOTTOM, TOP, LB, KIND, num, tileOf}
-use Rattle.table.specs.Sound.{UsedIn, Named}
-use Rattle.table.specs.Forms.{planeIn}
-use Rattle.sound.specs.Tally.{AllWell}
-use Rattle.sound.specs.Links.{AllStitched}
-
--- what the first two passes found
-pub record Ready (t : List ℤ) : Type 0 where
-  pub well : AllWell t
-  pub stitched : AllStitched t
-
-pub ready-formed : (t : List ℤ) (i : ℕ) → Ready t → UsedIn t i → Formed (planeIn t) i
-ready-formed t i g u = g .well i (u .below) .formed (u .used)
+use Rattle.table.specs.Sound.{UsedIn}
+use Rattle.table.specs.Forms.{link}
+use Rattle.sound.specs.Links.{Ready, ready-formed, named-at}
 
 -- tile k begins at x, and is solid where what ends at x is of kind space
 pub record Fit (t : List ℤ) (x of k : ℕ) : Type 0 where
@@ -60,12 +50,12 @@ pub record Walked (t : List ℤ) (k x of floor at : ℕ) : Type 0 where
   pub meets : (y₀ : ℕ) → Meets t x floor y₀ k → AllFit t x of floor y₀ → Meets t x floor y₀ at
 
 -- what lies directly below a tile above the floor
-module _ (t : List ℤ) (floor at : ℕ) (g : Ready t) (u : UsedIn t at) (h : LOW ≤ floor) (o : floor < num t at BOTTOM) where
-  pub below : Named t (num t at LB) (num t at LEFT) (num t at BOTTOM - 1)
-  below = let f = ready-formed t at g u in g .stitched at u .lb .inside (omega arith)
+module _ (t : List ℤ) (floor at next : ℕ) (g : Ready t) (u : UsedIn t at) (h : LOW ≤ floor) (o : floor < num t at BOTTOM) (e : next ≡ link (num t at LB)) where
+  below : UsedIn t next × Has (tileOf t next) (num t at LEFT) (num t at BOTTOM - 1)
+  below = let f = ready-formed t at g u in named-at t (num t at LB) _ _ next (g .size .most) e (g .stitched at u .lb .inside (omega arith))
 
-  pub falls : (w : ℕ) → w ≡ num t at LB → (ZERO ≤ w) × (num t (w - ZERO) BOTTOM < num t at BOTTOM)
-  falls w e = let n = below in rw e (n .from, omega arith)
+  pub falls : num t next BOTTOM < num t at BOTTOM
+  falls = let n = below .1 in omega arith
 
 module _ (t : List ℤ) (k x of floor : ℕ) where
   pub walk-start : UsedIn t k → Walked t k x of floor k
@@ -74,15 +64,15 @@ module _ (t : List ℤ) (k x of floor : ℕ) where
   here : (at y : ℕ) → Ready t → UsedIn t at → Fit t x of at → num t at BOTTOM ≤ y → y < num t at TOP → Lined t x of y
   here at y g u f h l = let w = ready-formed t at g u in record { tile = at; used = u; has = omega arith; fit = f }
 
-  pub walk-on : (at w : ℕ) → Ready t → Walked t k x of floor at → Fit t x of at → LOW ≤ floor → floor < num t at BOTTOM → w ≡ num t at LB
-      → Walked t k x of floor (w - ZERO)
-  walk-on at w g d f h o e =
-      let n = below t floor at g (d .used) h o in
-      rw e (record {
-        used = n .used;
+  pub walk-on : (at next : ℕ) → Ready t → Walked t k x of floor at → Fit t x of at → LOW ≤ floor → floor < num t at BOTTOM → next ≡ link (num t at LB)
+      → Walked t k x of floor next
+  walk-on at next g d f h o e =
+      let (u, n) = below t floor at next g (d .used) h o e in
+      record {
+        used = u;
         lined = λ rest. d .lined (λ y p q. lt-cases y (num t at BOTTOM) (λ l. rest y p (omega arith)) (λ l. here at y g (d .used) f l q));
         meets = λ y₀ m a. let v = d .meets y₀ m a in record { row = num t at BOTTOM - 1; from = omega arith; to = omega arith; has = omega arith };
-      })
+      }
 
   pub walk-ends : (at : ℕ) → Ready t → Walked t k x of floor at → Fit t x of at → num t at BOTTOM ≤ floor → Column t k x of floor true
   walk-ends at g w f o = record { lined = λ _. w .lined (λ y p q. here at y g (w .used) f (omega arith) q); passes = λ y₀ m a. tt }

@@ -1,7 +1,7 @@
 -- Why the passes of the soundness check tell exactly whether a table is sound.
 pub mod Records
-pub mod Tally
 pub mod Links
+pub mod Tally
 pub mod Columns
 pub mod Passed
 pub mod Sides

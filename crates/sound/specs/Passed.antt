@@ -1,6 +1,6 @@
 -- What the tests of the check say together, and that it is the form of a sound table: a table that passes them has it, and one that has it
 -- passes each. Assumes nothing.
-use mathlib.Core.Path.{_≡_, sym, subst}
+use mathlib.Core.Path.{_≡_, refl, sym, subst}
 use mathlib.Core.Logic.{_≢_}
 use mathlib.Core.Bool.{not}
 use mathlib.Core.List.{List}
@@ -9,17 +9,17 @@ use native.Mathlib.Omega.{arith}
 use lib.Dec.{T, T-not, not-T, eqb, eqb→eq, eqb-refl}
 use lib.IntN.{ℤ}
 use Rattle.geometry.specs.Cases.{eq-cases}
-use Rattle.geometry.specs.Picture.{ZERO, LOW, HIGH, SPACE, SOLID}
+use Rattle.geometry.specs.Picture.{LOW, HIGH, SPACE, SOLID, Has}
 use Rattle.geometry.specs.Plane.{Holds, Held, WellFormed, Covered, Disjoint, area, cover-from-sides, exact-cover, exact-area}
 use Rattle.geometry.specs.Strips.{Strips, Space, right-side}
 use Rattle.geometry.specs.Stitches.{HoldsUp, on-top}
 use Rattle.geometry.specs.Tiling.{solidOf, Kinded, space, solid, Widest}
 use Rattle.table.specs.Words.{LEFT, BOTTOM, RIGHT, TOP, RT, KIND, num, recordsOf, tileOf}
 use Rattle.table.specs.Sound.{SizeRight, capacity, solidsIn, UsedIn}
-use Rattle.table.specs.Forms.{planeIn, Forms, used-is, is-used, holds-has, has-holds, stitched-good, good-stitched}
-use Rattle.sound.specs.Records.{KindRight, Keeps}
-use Rattle.sound.specs.Tally.{AllWell}
-use Rattle.sound.specs.Columns.{Ready, ready-formed, Lined, Rows, AllFit}
+use Rattle.table.specs.Forms.{planeIn, link, Forms, used-is, is-used, holds-has, has-holds, stitched-good, good-stitched}
+use Rattle.sound.specs.Records.{KindRight, AllWell}
+use Rattle.sound.specs.Links.{Ready, ready-formed, named-at}
+use Rattle.sound.specs.Columns.{Lined, Rows, AllFit}
 
 -- the right side of tile i: in each of its rows some tile begins there, a solid where i is space
 abbrev pub Sided : List ℤ → ℕ → Type 0
@@ -33,7 +33,7 @@ pub record Twin (t : List ℤ) (k left right : ℕ) : Type 0 where
 
 -- no space tile has at rt a space tile of the same span
 abbrev pub Unstacked : List ℤ → ℕ → Type 0
-Unstacked t i = num t i KIND ≡ SPACE → num t i TOP < HIGH → Twin t (num t i RT - ZERO) (num t i LEFT) (num t i RIGHT) → ⊥
+Unstacked t i = num t i KIND ≡ SPACE → num t i TOP < HIGH → Twin t (link (num t i RT)) (num t i LEFT) (num t i RIGHT) → ⊥
 
 pub record Passed (t : List ℤ) : Type 0 where
   pub ready : Ready t
@@ -97,10 +97,10 @@ module _ (t : List ℤ) (p : Passed t) where
       let u = is-used t i (s .is) in
       let f = formed i (s .is) in
       let z = formed j (q .is) in
-      let n = p .ready .stitched i u .rt .inside (omega arith) in
-      let k = num t i RT - ZERO in
+      let k = link (num t i RT) in
+      let (v, o) = named-at t (num t i RT) _ _ k (p .ready .size .most) refl (p .ready .stitched i u .rt .inside (omega arith)) in
       let h : Holds (planeIn t) j (num t i RIGHT - 1) (num t i TOP) = record { is = q .is; at = omega arith } in
-      let e : k ≡ j = disjoint k j (num t i RIGHT - 1) (num t i TOP) (has-holds t k (num t i RIGHT - 1) (num t i TOP) (n .used) (n .has)) h in
+      let e : k ≡ j = disjoint k j (num t i RIGHT - 1) (num t i TOP) (has-holds t k (num t i RIGHT - 1) (num t i TOP) v o) h in
       p .unstacked i u (space-kind i s) (omega arith) (subst (λ m. Twin t m (num t i LEFT) (num t i RIGHT)) (sym e)
       (record { space = space-kind j q; from = sym el; to = sym er }))
 
@@ -124,7 +124,7 @@ module _ (t : List ℤ) (f : Forms t) where
   strips : Strips (planeIn t) (solidOf (tileOf t))
   strips = f .widest .strips
 
-  pub forms-well : AllWell t
+  forms-well : AllWell t
   forms-well i h = record {
     blank = f .zeros i h;
     formed = λ n. strips .formed i (used-is t i (record { below = h; used = n }));
@@ -132,7 +132,7 @@ module _ (t : List ℤ) (f : Forms t) where
   }
 
   pub forms-ready : SizeRight t → Ready t
-  forms-ready s = record { well = forms-well; stitched = good-stitched t (s .most) (f .good) }
+  forms-ready s = record { size = s; well = forms-well; stitched = good-stitched t (s .most) (f .good) }
 
   pub forms-area : area (planeIn t) ≡ 2 ^ 50
   forms-area = exact-area (planeIn t) (strips .formed) (strips .covered) (strips .disjoint)
@@ -146,11 +146,11 @@ module _ (t : List ℤ) (f : Forms t) where
   space-in i u e = record { is = used-is t i u; space = not-solid (num t i KIND) e }
 
   -- the plane's upper left cell is held
-  pub forms-corner : (i : ℕ) × Keeps t i LOW (HIGH - 1) × (i < recordsOf t)
+  pub forms-corner : (i : ℕ) × Has (tileOf t i) LOW (HIGH - 1) × (i < recordsOf t)
   forms-corner =
       let (i, h) = strips .covered LOW (HIGH - 1) (omega arith) in
       let (u, v) = holds-has t i LOW (HIGH - 1) h in
-      (i, record { used = u .used; has = v }, u .below)
+      (i, v, u .below)
 
   pub forms-side : (i : ℕ) → UsedIn t i → AllFit t (num t i RIGHT) (num t i KIND) (num t i BOTTOM) (num t i TOP)
   forms-side i u m y v h b k =
@@ -163,8 +163,8 @@ module _ (t : List ℤ) (f : Forms t) where
   pub forms-unstacked : Ready t → (i : ℕ) → UsedIn t i → Unstacked t i
   forms-unstacked r i u e h w =
       let g = strips .formed i (used-is t i u) in
-      let n = r .stitched i u .rt .inside (omega arith) in
-      let k = num t i RT - ZERO in
-      let v : HoldsUp (planeIn t) k (num t i RIGHT) (num t i TOP) = record { is = used-is t k (n .used); at = omega arith } in
+      let k = link (num t i RT) in
+      let (n, o) = named-at t (num t i RT) _ _ k (r .size .most) refl (r .stitched i u .rt .inside (omega arith)) in
+      let v : HoldsUp (planeIn t) k (num t i RIGHT) (num t i TOP) = record { is = used-is t k n; at = omega arith } in
       let d = on-top (planeIn t) (strips .formed) (strips .disjoint) i k (num t i RIGHT) (used-is t i u) v (omega arith) (omega arith) in
-      strips .merged i k (space-in i u e) (space-in k (n .used) (w .space)) (sym (w .from)) (sym (w .to)) (sym d)
+      strips .merged i k (space-in i u e) (space-in k n (w .space)) (sym (w .from)) (sym (w .to)) (sym d)

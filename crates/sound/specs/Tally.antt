@@ -4,26 +4,32 @@ use mathlib.Core.Logic.{_≢_, _↔_}
 use mathlib.Core.Bool.{Bool, true, not}
 use mathlib.Core.List.{List}
 use Prim.Native.Nat.{ℕ, _+_, _-_, _*_, _^_, _≤_, _<_}
-use native.Mathlib.Nat.{mul-le-mul}
+use native.Mathlib.Nat.{mul-le-mul, zero-mul}
 use native.Mathlib.Numerals.{add-one}
 use native.Mathlib.Omega.{arith}
 use borrow.Author.Count.{below-none, below-more}
 use borrow.Author.Tests.{eq-eqb, ne-eqb}
 use lib.Dec.{T, eqb}
 use lib.IntN.{ℤ}
-use Rattle.geometry.specs.Picture.{FREE, SOLID, Has}
-use Rattle.geometry.specs.Plane.{area, Formed}
+use Rattle.geometry.specs.Cases.{eq-cases}
 use Rattle.geometry.specs.Counting.{only, sumTo, count}
-use Rattle.table.specs.Words.{LEFT, BOTTOM, RIGHT, TOP, KIND, num, recordsOf, tileOf}
-use Rattle.table.specs.Sound.{solidAt, solidsIn}
+use Rattle.geometry.specs.Picture.{FREE, SOLID}
+use Rattle.geometry.specs.Plane.{area}
+use Rattle.table.specs.Words.{LEFT, BOTTOM, RIGHT, TOP, KIND, num, recordsOf}
+use Rattle.table.specs.Sound.{SizeRight, Zeros, solidAt, solidsIn}
 use Rattle.table.specs.Forms.{planeIn}
 use Rattle.table.specs.Reading.{Reads}
 use Rattle.table.specs.declared.Record.{Record}
-use Rattle.sound.specs.Records.{Well, Keeps}
+use Rattle.sound.specs.Records.{Well, AllWell}
+use Rattle.sound.specs.Links.{Linked, Ready, Tested, all-stitched}
+
+-- the cells of record k's rectangle
+abbrev rectangle : List ℤ → ℕ → ℕ
+rectangle t k = (num t k RIGHT - num t k LEFT) * (num t k TOP - num t k BOTTOM)
 
 -- the cells of record k, if it is used, and whether it is a solid
 unfoldable pub cells : List ℤ → ℕ → ℕ
-cells t k = only (not (eqb (num t k KIND) FREE)) ((num t k RIGHT - num t k LEFT) * (num t k TOP - num t k BOTTOM))
+cells t k = only (not (eqb (num t k KIND) FREE)) (rectangle t k)
 
 unfoldable pub one : List ℤ → ℕ → ℕ
 one t k = only (solidAt t k) 1
@@ -43,24 +49,44 @@ areaTo t n = sumTo n (cells t)
 unfoldable pub solidsTo : List ℤ → ℕ → ℕ
 solidsTo t n = count n (solidAt t)
 
-pub cells-free : (t : List ℤ) (k : ℕ) → num t k KIND ≡ FREE → cells t k ≡ 0
+cells-free : (t : List ℤ) (k : ℕ) → num t k KIND ≡ FREE → cells t k ≡ 0
 unfolding cells
-cells-free t k e = ap (λ b. only (not b) ((num t k RIGHT - num t k LEFT) * (num t k TOP - num t k BOTTOM))) (eq-eqb (num t k KIND) FREE e)
+cells-free t k e = ap (λ b. only (not b) (rectangle t k)) (eq-eqb (num t k KIND) FREE e)
 
 -- a product of two sides of the plane
 pub in-square : (m n : ℕ) → m ≤ 2 ^ 25 → n ≤ 2 ^ 25 → m * n ≤ 2 ^ 50
 in-square m n h k = mul-le-mul h k
 
-pub read-formed : (t : List ℤ) (k : ℕ) (v : Record) → Reads t k v → v .kind ≢ FREE → Well t k → Formed (planeIn t) k
-read-formed t k v h n w = w .formed (λ e. n (h .kind ∙ e))
+-- how far the sides of a record that is well lie apart: a free one's are all 0
+pub record Spans (t : List ℤ) (k : ℕ) : Type 0 where
+  pub left : num t k LEFT ≤ num t k RIGHT
+  pub wide : num t k RIGHT ≤ num t k LEFT + 2 ^ 25
+  pub bottom : num t k BOTTOM ≤ num t k TOP
+  pub high : num t k TOP ≤ num t k BOTTOM + 2 ^ 25
 
-pub cells-used : (t : List ℤ) (k : ℕ) (v : Record) → Reads t k v → v .kind ≢ FREE → Well t k → CellsAre t k ((v .right - v .left) * (v .top - v .bottom))
+free-spans : (t : List ℤ) (k : ℕ) → Zeros t k → Spans t k
+free-spans t k z = omega (arith, z LEFT (omega arith), z BOTTOM (omega arith), z RIGHT (omega arith), z TOP (omega arith))
+
+pub well-spans : (t : List ℤ) (k : ℕ) → Well t k → Spans t k
+well-spans t k w = eq-cases (num t k KIND) FREE (λ e. free-spans t k (w .blank e)) (λ n. let f = w .formed n in omega arith)
+
+free-rectangle : (t : List ℤ) (k : ℕ) → Zeros t k → rectangle t k ≡ 0
+free-rectangle t k z =
+    let e : num t k RIGHT - num t k LEFT ≡ 0 = omega (arith, z LEFT (omega arith), z RIGHT (omega arith)) in
+    ap (λ n. n * (num t k TOP - num t k BOTTOM)) e ∙ zero-mul (num t k TOP - num t k BOTTOM)
+
+cells-rectangle : (t : List ℤ) (k : ℕ) → Well t k → rectangle t k ≡ cells t k
 unfolding cells
-cells-used t k v h n w =
-    let f = read-formed t k v h n w in
+cells-rectangle t k w =
+    eq-cases (num t k KIND) FREE
+    (λ e. free-rectangle t k (w .blank e) ∙ sym (cells-free t k e))
+    (λ n. sym (ap (λ b. only (not b) (rectangle t k)) (ne-eqb (num t k KIND) FREE n)))
+
+pub cells-are : (t : List ℤ) (k : ℕ) (v : Record) → Reads t k v → Well t k → CellsAre t k ((v .right - v .left) * (v .top - v .bottom))
+cells-are t k v h w =
+    let s = well-spans t k w in
     record {
-      is = ap₂ _*_ (ap₂ _-_ (h .right) (h .left)) (ap₂ _-_ (h .top) (h .bottom))
-          ∙ sym (ap (λ b. only (not b) ((num t k RIGHT - num t k LEFT) * (num t k TOP - num t k BOTTOM))) (ne-eqb (num t k KIND) FREE (λ e. n (h .kind ∙ e))));
+      is = ap₂ _*_ (ap₂ _-_ (h .right) (h .left)) (ap₂ _-_ (h .top) (h .bottom)) ∙ cells-rectangle t k w;
       fits = in-square (v .right - v .left) (v .top - v .bottom) (omega arith) (omega arith);
     }
 
@@ -96,29 +122,20 @@ pub solids-all : (t : List ℤ) → solidsTo t (recordsOf t) ≡ solidsIn t
 unfolding solidsTo
 solids-all t = refl
 
-abbrev pub AllWell : List ℤ → Type 0
-AllWell t = (i : ℕ) → i < recordsOf t → Well t i
-
--- a record that holds a cell is used: a free one is zeros
-pub has-used : (t : List ℤ) (i x y : ℕ) → AllWell t → i < recordsOf t → Has (tileOf t i) x y → num t i KIND ≢ FREE
-has-used t i x y w h k e = let z = w i h .blank e in omega (arith, z LEFT (omega arith), z RIGHT (omega arith))
-
-pub has-keeps : (t : List ℤ) (i x y : ℕ) → AllWell t → i < recordsOf t → Has (tileOf t i) x y → Keeps t i x y
-has-keeps t i x y w h k = record { used = has-used t i x y w h k; has = k }
-
 -- what the first pass finds
 pub record Tallied (t : List ℤ) (a s : ℕ) (w : Bool) : Type 0 where
-  pub well : T w ↔ AllWell t
+  pub ready : T w ↔ Ready t
   pub area : T w → a ≡ area (planeIn t)
   pub solids : T w → s ≡ solidsIn t
 
--- the sums over the records below i, all of them well
+-- the sums over the records below i, all of which passed
 pub record Summed (t : List ℤ) (i a s : ℕ) : Type 0 where
   pub area : a ≡ areaTo t i
   pub area-fits : a ≤ i * 2 ^ 50
   pub solids : s ≡ solidsTo t i
   pub solids-fits : s ≤ i
-  pub below : (k : ℕ) → k < i → Well t k
+  pub well : (k : ℕ) → k < i → Well t k
+  pub linked : (k : ℕ) → k < i → AllWell t → Linked t k
 
 pub summed-none : (t : List ℤ) → Summed t 0 0 0
 summed-none t = record {
@@ -126,21 +143,25 @@ summed-none t = record {
   area-fits = omega arith;
   solids = sym (solids-none t);
   solids-fits = omega arith;
-  below = below-none (Well t);
+  well = below-none (Well t);
+  linked = below-none (λ k. AllWell t → Linked t k);
 }
 
-pub summed-more : (t : List ℤ) (i a s c o : ℕ) → Summed t i a s → Well t i → CellsAre t i c → OneIs t i o → Summed t (i + 1) (a + c) (s + o)
+pub summed-more : (t : List ℤ) (i a s c o : ℕ) → Summed t i a s → Tested t i true → CellsAre t i c → OneIs t i o → Summed t (i + 1) (a + c) (s + o)
 summed-more t i a s c o h w p q = record {
   area = omega (arith, area-more t i);
   area-fits = omega arith;
   solids = omega (arith, solids-more t i);
   solids-fits = omega arith;
-  below = below-more (Well t) i (h .below) w;
+  well = below-more (Well t) i (h .well) (w .well tt);
+  linked = below-more (λ k. AllWell t → Linked t k) i (h .linked) (w .linked tt);
 }
 
-pub summed-all : (t : List ℤ) (i a s : ℕ) → Summed t i a s → i ≡ recordsOf t → Tallied t a s true
-summed-all t i a s h e = record {
-  well = (λ _ k l. h .below k (omega arith), λ _. tt);
-  area = λ _. h .area ∙ ap (areaTo t) e ∙ area-all t;
-  solids = λ _. h .solids ∙ ap (solidsTo t) e ∙ solids-all t;
-}
+pub summed-all : (t : List ℤ) (i a s : ℕ) → SizeRight t → Summed t i a s → i ≡ recordsOf t → Tallied t a s true
+summed-all t i a s z h e =
+    let w : AllWell t = λ k l. h .well k (omega arith) in
+    record {
+      ready = (λ _. record { size = z; well = w; stitched = all-stitched t (λ k l. h .linked k (omega arith) w) }, λ _. tt);
+      area = λ _. h .area ∙ ap (areaTo t) e ∙ area-all t;
+      solids = λ _. h .solids ∙ ap (solidsTo t) e ∙ solids-all t;
+    }

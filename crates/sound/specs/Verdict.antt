@@ -13,9 +13,8 @@ use Rattle.table.specs.Words.{recordsOf}
 use Rattle.table.specs.Sound.{SizeRight, capacity, solidsIn, UsedIn}
 use Rattle.table.specs.Forms.{Forms}
 use Rattle.sound.specs.Tally.{Tallied}
-use Rattle.sound.specs.Links.{AllStitched}
 use Rattle.sound.specs.Columns.{Rows}
-use Rattle.sound.specs.Passed.{Sided, Unstacked, Passed, passed-forms, forms-well, forms-ready, forms-area}
+use Rattle.sound.specs.Passed.{Sided, Unstacked, Passed, passed-forms, forms-ready, forms-area}
 use Rattle.sound.specs.Sides.{LeftColumn, AllBeside}
 
 -- exact, with the number of solids of a sound table, and 0 of any other
@@ -29,9 +28,8 @@ pub record Measured (t : List ℤ) (a n : ℕ) : Type 0 where
   pub area : a ≡ 2 ^ 50
   pub few : n ≤ capacity (recordsOf t)
 
--- how the tiles lie: the second and the third pass
+-- how the tiles lie: the second pass
 pub record Laid (t : List ℤ) : Type 0 where
-  pub stitched : AllStitched t
   pub first : Rows t LOW SOLID LOW HIGH
   pub sided : (i : ℕ) → UsedIn t i → Sided t i
   pub unstacked : (i : ℕ) → UsedIn t i → Unstacked t i
@@ -40,17 +38,14 @@ pub record LaidIs (t : List ℤ) (r : Bool) : Type 0 where
   pub laid : T r → Laid t
   pub passes : Forms t → T r
 
-pub laid-all : (t : List ℤ) (r : Bool) → AllStitched t → LeftColumn t true → AllBeside t r → LaidIs t r
-laid-all t r s c b = record {
-  laid = λ h. record { stitched = s; first = c .rows tt; sided = b .sided h; unstacked = b .unstacked h };
+pub laid-all : (t : List ℤ) (r : Bool) → LeftColumn t true → AllBeside t r → LaidIs t r
+laid-all t r c b = record {
+  laid = λ h. record { first = c .rows tt; sided = b .sided h; unstacked = b .unstacked h };
   passes = b .passes;
 }
 
 pub laid-first : (t : List ℤ) → LeftColumn t false → LaidIs t false
 laid-first t c = record { laid = λ b. absurd b; passes = c .passes }
-
-pub laid-none : (t : List ℤ) → SizeRight t → (AllStitched t → ⊥) → LaidIs t false
-laid-none t s n = record { laid = λ b. absurd b; passes = λ f. n (forms-ready t f s .stitched) }
 
 -- ---- the verdict
 
@@ -61,8 +56,8 @@ pub not-laid : (t : List ℤ) → LaidIs t false → Checked t false 0
 not-laid t l = unsound t (l .passes)
 
 module _ (t : List ℤ) (a n : ℕ) where
-  pub not-well : Tallied t a n false → Checked t false 0
-  not-well w = unsound t (λ f. w .well .1 (forms-well t f))
+  pub not-ready : SizeRight t → Tallied t a n false → Checked t false 0
+  not-ready s w = unsound t (λ f. w .ready .1 (forms-ready t f s))
 
   pub not-measured : Tallied t a n true → (Measured t a n → ⊥) → Checked t false 0
   not-measured w m = unsound t (λ f. m (record { area = w .area tt ∙ forms-area t f; few = omega (arith, f .few, w .solids tt) }))
@@ -71,7 +66,7 @@ module _ (t : List ℤ) (a n : ℕ) where
   passed s w m l =
       let p : Passed t =
       record {
-        ready = record { well = w .well .0 tt; stitched = l .stitched };
+        ready = w .ready .0 tt;
         few = omega (arith, m .few, w .solids tt);
         area = sym (w .area tt) ∙ m .area;
         first = l .first;

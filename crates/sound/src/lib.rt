@@ -2,7 +2,7 @@
 ghost use mathlib.Core.Logic.{_↔_};
 ghost use lib.Dec.{T};
 ghost use Rattle.table.specs.Sound.{SizeRight};
-ghost use Rattle.sound.specs.Tally.{AllWell};
+ghost use Rattle.sound.specs.Links.{Ready};
 ghost use Rattle.sound.specs.Verdict.{Checked, Measured, LaidIs};
 
 mod records;
@@ -30,15 +30,13 @@ fn measured(t: &[i32], area: u64, solids: usize) -> bool
     true
 }
 
-// How well-formed records lie: stitches, left column, right sides, what is above.
+// How the tiles lie: left column, right sides, what is above.
 fn laid(t: &[i32]) -> bool
-    requires { ⌜ SizeRight (now t) × AllWell (now t) ⌝ }
+    requires { ⌜ Ready (now t) ⌝ }
     ensures { λ r. ⌜ LaidIs (now (t .entry)) r ⌝ }
 {
-    if stitches::all_linked(t) {
-        if sides::left_column(t) {
-            return sides::all_beside(t);
-        }
+    if sides::left_column(t) {
+        return sides::all_beside(t);
     }
     false
 }
@@ -53,8 +51,12 @@ pub fn check(t: &[i32]) -> Verdict
     requires { ⌜ SizeRight (now t) ⌝ }
     ensures { λ r. ⌜ Checked (now (t .entry)) (r .sound) (r .solids) ⌝ }
 {
-    let Sums { well, area, solids } = records::tally(t);
-    if well {
+    let Sums {
+        ready,
+        area,
+        solids,
+    } = records::tally(t);
+    if ready {
         if measured(t, area, solids) {
             if laid(t) {
                 return Verdict {

@@ -1,4 +1,4 @@
-// The first pass: each record by itself, and the sums over all.
+// The first pass: each record by itself, its stitches, and the sums over all.
 ghost use mathlib.Core.Logic.{_↔_};
 ghost use Prim.Native.Nat.{_<_};
 ghost use lib.Dec.{T};
@@ -7,14 +7,18 @@ ghost use Rattle.table.specs.Words.{recordsOf};
 ghost use Rattle.table.specs.Sound.{SizeRight, Zeros};
 ghost use Rattle.table.specs.Forms.{planeIn};
 ghost use Rattle.sound.specs.Records.{KindRight, Well};
+ghost use Rattle.sound.specs.Links.{Tested};
 ghost use Rattle.sound.specs.Tally.{CellsAre, OneIs, Tallied};
+use crate::stitches;
 use table::Record;
 use table::numbers::FREE;
 use table::numbers::HIGH;
 use table::numbers::KIND;
 use table::numbers::LOW;
+use table::numbers::RIGHT;
 use table::numbers::SOLID;
 use table::numbers::SPACE;
+use table::numbers::TOP;
 use table::numbers::WIDTH;
 use table::numbers::ZERO;
 
@@ -48,22 +52,19 @@ fn formed(t: &[i32], i: usize) -> bool
     if left < LOW {
         return false;
     }
-    if right <= left {
-        return false;
-    }
     if HIGH < right {
         return false;
     }
     if bottom < LOW {
         return false;
     }
-    if top <= bottom {
-        return false;
-    }
     if HIGH < top {
         return false;
     }
-    true
+    if table::under_word(t, left, i, RIGHT) {
+        return table::under_word(t, bottom, i, TOP);
+    }
+    false
 }
 
 // Kind and label go together.
@@ -99,7 +100,18 @@ fn well(t: &[i32], i: usize) -> bool
     false
 }
 
-// The cells that record i takes.
+// Record i by itself, and its stitches.
+fn tested(t: &[i32], i: usize) -> bool
+    requires { ⌜ SizeRight (now t) × (i < recordsOf (now t)) ⌝ }
+    ensures { λ r. ⌜ Tested (now (t .entry)) i r ⌝ }
+{
+    if well(t, i) {
+        return stitches::linked(t, i);
+    }
+    false
+}
+
+// The cells that record i takes: a free one is ten zeros and takes none.
 fn cells(t: &[i32], i: usize) -> u64
     requires { ⌜ (i < recordsOf (now t)) × Well (now t) i ⌝ }
     ensures { λ r. ⌜ CellsAre (now (t .entry)) i r ⌝ }
@@ -109,12 +121,8 @@ fn cells(t: &[i32], i: usize) -> u64
         bottom,
         right,
         top,
-        kind,
         ..
     } = table::read(t, i);
-    if kind == FREE {
-        return 0;
-    }
     (right - left) * (top - bottom)
 }
 
@@ -130,35 +138,35 @@ fn one(t: &[i32], i: usize) -> usize
 }
 
 pub(crate) struct Sums {
-    pub(crate) well: bool,
+    pub(crate) ready: bool,
     pub(crate) area: u64,
     pub(crate) solids: usize,
 }
 
-// The first pass: each record by itself, and the sums over all.
+// The first pass.
 pub(crate) fn tally(t: &[i32]) -> Sums
     requires { ⌜ SizeRight (now t) ⌝ }
-    ensures { λ r. ⌜ Tallied (now (t .entry)) (r .area) (r .solids) (r .well) ⌝ }
+    ensures { λ r. ⌜ Tallied (now (t .entry)) (r .area) (r .solids) (r .ready) ⌝ }
 {
     let n = table::records(t);
     let mut area = 0;
     let mut solids = 0;
     let mut i = 0;
     while i < n {
-        if well(t, i) {
+        if tested(t, i) {
             area += cells(t, i);
             solids += one(t, i);
             i += 1;
         } else {
             return Sums {
-                well: false,
+                ready: false,
                 area: 0,
                 solids: 0,
             };
         }
     }
     Sums {
-        well: true,
+        ready: true,
         area,
         solids,
     }

@@ -1,21 +1,27 @@
-// The third pass: the plane's left column, the right side of each tile, and what lies above each space tile.
+// The second pass: the plane's left column, the right side of each tile, and what lies above each space tile.
+ghost use mathlib.Core.Path.{_≡_};
 ghost use mathlib.Core.Logic.{_↔_};
-ghost use Prim.Native.Nat.{_<_, _≤_};
+ghost use Prim.Native.Nat.{_<_, _≤_, _^_};
 ghost use lib.Dec.{T};
-ghost use Rattle.geometry.specs.Picture.{LOW};
-ghost use Rattle.table.specs.Words.{recordsOf};
+ghost use Rattle.geometry.specs.Picture.{LOW, SPACE};
+ghost use Rattle.table.specs.Words.{KIND, num, recordsOf};
 ghost use Rattle.table.specs.Sound.{UsedIn};
-ghost use Rattle.sound.specs.Columns.{Ready, Fit, Column};
+ghost use Rattle.sound.specs.Links.{Ready};
+ghost use Rattle.sound.specs.Columns.{Fit, Column};
 ghost use Rattle.sound.specs.Passed.{Twin, Unstacked};
 ghost use Rattle.sound.specs.Sides.{Corner, LeftColumn, Side, Beside, AllBeside};
 use crate::stitches;
 use table::Record;
+use table::numbers::BOTTOM;
 use table::numbers::FREE;
 use table::numbers::HIGH;
+use table::numbers::KIND;
+use table::numbers::LB;
 use table::numbers::LOW;
+use table::numbers::RT;
 use table::numbers::SOLID;
 use table::numbers::SPACE;
-use table::numbers::ZERO;
+use table::numbers::TR;
 
 // Tile k begins at x, and is solid where the kind of what ends at x, `of`, is space.
 fn fits(t: &[i32], k: usize, x: u64, of: u64) -> bool
@@ -36,16 +42,16 @@ fn fits(t: &[i32], k: usize, x: u64, of: u64) -> bool
 
 // From tile k down column x by lb, until a tile reaches the floor: each begins at x.
 fn column(t: &[i32], k: usize, x: u64, of: u64, floor: u64) -> bool
-    requires { ⌜ Ready (now t) × (UsedIn (now t) k × (LOW ≤ floor)) ⌝ }
+    requires { ⌜ Ready (now t) × (UsedIn (now t) k × ((LOW ≤ floor) × (floor < 2 ^ 32))) ⌝ }
     ensures { λ r. ⌜ Column (now (t .entry)) k x of floor r ⌝ }
 {
     let mut at = k;
     while fits(t, at, x, of) {
-        let Record { bottom, lb, .. } = table::read(t, at);
-        if bottom <= floor {
+        if table::under_word(t, floor, at, BOTTOM) {
+            at = table::follow(t, at, LB);
+        } else {
             return true;
         }
-        at = (lb - ZERO) as usize;
     }
     false
 }
@@ -58,7 +64,7 @@ fn corner(t: &[i32]) -> usize
     let n = table::records(t);
     let mut i = 0;
     while i < n {
-        if stitches::keeps(t, i, LOW, HIGH - 1) {
+        if stitches::holds(t, i, LOW, HIGH - 1) {
             return i;
         }
         i += 1;
@@ -80,23 +86,20 @@ pub(crate) fn left_column(t: &[i32]) -> bool
 
 // The right side of tile i: what touches it begins there, and is solid where i is space.
 fn side(t: &[i32], i: usize) -> bool
-    requires { ⌜ Ready (now t) × (i < recordsOf (now t)) ⌝ }
+    requires { ⌜ Ready (now t) × UsedIn (now t) i ⌝ }
     ensures { λ r. ⌜ Side (now (t .entry)) i r ⌝ }
 {
     let Record {
         bottom,
         right,
-        tr,
         kind,
         ..
     } = table::read(t, i);
-    if kind == FREE {
-        return true;
-    }
     if HIGH <= right {
         return true;
     }
-    column(t, (tr - ZERO) as usize, right, kind, bottom)
+    let first = table::follow(t, i, TR);
+    column(t, first, right, kind, bottom)
 }
 
 // Record k is a space tile of this span.
@@ -122,43 +125,46 @@ fn twin(t: &[i32], k: usize, from: u64, to: u64) -> bool
     true
 }
 
-// No space tile of the same span directly above tile i, if that is space.
+// No space tile of the same span directly above the space tile i.
 fn unstacked(t: &[i32], i: usize) -> bool
-    requires { ⌜ Ready (now t) × (i < recordsOf (now t)) ⌝ }
+    requires { ⌜ Ready (now t) × (UsedIn (now t) i × (num (now t) i KIND ≡ SPACE)) ⌝ }
     ensures { λ r. ⌜ T r ↔ Unstacked (now (t .entry)) i ⌝ }
 {
     let Record {
         left,
         right,
         top,
-        rt,
-        kind,
         ..
     } = table::read(t, i);
-    if kind != SPACE {
-        return true;
-    }
     if HIGH <= top {
         return true;
     }
-    if twin(t, (rt - ZERO) as usize, left, right) {
+    let above = table::follow(t, i, RT);
+    if twin(t, above, left, right) {
         return false;
     }
     true
 }
 
-// Tile i and what lies at its right and above it.
+// Record i: a tile, with what lies at its right and, if it is space, above it.
 fn beside(t: &[i32], i: usize) -> bool
     requires { ⌜ Ready (now t) × (i < recordsOf (now t)) ⌝ }
     ensures { λ r. ⌜ Beside (now (t .entry)) i r ⌝ }
 {
-    if side(t, i) {
-        return unstacked(t, i);
+    let kind = table::word(t, i, KIND);
+    if kind == SPACE {
+        if side(t, i) {
+            return unstacked(t, i);
+        }
+        return false;
     }
-    false
+    if kind == FREE {
+        return true;
+    }
+    side(t, i)
 }
 
-// The third pass.
+// The second pass, along all tiles.
 pub(crate) fn all_beside(t: &[i32]) -> bool
     requires { ⌜ Ready (now t) ⌝ }
     ensures { λ r. ⌜ AllBeside (now (t .entry)) r ⌝ }

@@ -8,7 +8,7 @@ pub fn solids_if_sound(table: &[Record]) -> Option<usize> {
     let mut area = 0;
     let mut solids = 0;
     for record in table {
-        if !is_well_formed(record) {
+        if !is_well_formed(record) || !(record[KIND] == FREE || stitches_are_right(table, record)) {
             return None;
         }
         area += area_of(record);
@@ -19,8 +19,7 @@ pub fn solids_if_sound(table: &[Record]) -> Option<usize> {
     }
     let used = || table.iter().filter(|record| record[KIND] != FREE);
     // The walks below follow stitches without a test, so all stitches are tested before the first walk.
-    let sound = used().all(|record| stitches_are_right(table, record))
-        && left_column_is_held(table)
+    let sound = left_column_is_held(table)
         && used().all(|record| right_side_is_right(table, record) && !has_its_like_above(table, record));
     sound.then_some(solids)
 }
@@ -53,11 +52,13 @@ fn stitches_are_right(table: &[Record], record: &Record) -> bool {
         && names_holder(table, lb, left, bottom - 1)
 }
 
+/// The stitch's bits, read without a sign, number a record only if it is one. Where all records are well formed, one that
+/// holds the cell is used, and the cell is of the plane.
 fn names_holder(table: &[Record], stitch: i32, x: i32, y: i32) -> bool {
-    if !in_plane(x, y) {
-        return stitch == NO_TILE;
+    match table.get(stitch as u32 as usize) {
+        Some(record) => holds(record, x, y),
+        None => stitch == NO_TILE && !in_plane(x, y),
     }
-    stitch >= 0 && table.get(stitch as usize).is_some_and(|record| holds(record, x, y))
 }
 
 /// From the tile in the plane's upper left corner down to the plane's bottom, every tile begins at the left edge.

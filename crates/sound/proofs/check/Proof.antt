@@ -2,7 +2,7 @@
 use mathlib.Core.Path.{sym, subst}
 use lib.Dec.{T}
 use borrow.Author.Needs.{needs}
-use Rattle.sound.specs.Verdict.{LaidIs, not-well, not-measured, not-laid, passed}
+use Rattle.sound.specs.Verdict.{LaidIs, not-ready, not-measured, not-laid, passed}
 use Rattle.sound.specs.Tally.{Tallied}
 use Rattle.geometry.specs.Cases.{yes, no}
 use Rattle.sound.proofs.check.Statement.{statement}
@@ -15,9 +15,7 @@ measured-requires : tie.Need-measured-requires
 measured-requires c κs = search needs
 
 laid-requires : tie.Need-laid-requires
-laid-requires c κs =
-    let a = c .before .before in
-    (a .before .before .pre, a .before .tally .ensures .well .0 (subst T (sym (a .if1 .taken)) tt))
+laid-requires c κs = let a = c .before .before in yes (a .before .tally .ensures .ready) (a .if1 .taken)
 
 returns : tie.Need-returns
 returns c =
@@ -34,7 +32,7 @@ returns-3 c =
     not-measured _ _ _ (subst (Tallied _ _ _) (a .if1 .taken) (a .before .tally .ensures)) (no (c .before .measured .ensures) (c .if2 .left))
 
 returns-4 : tie.Need-returns-4
-returns-4 c = not-well _ _ _ (subst (Tallied _ _ _) (c .if1 .left) (c .before .tally .ensures))
+returns-4 c = not-ready _ _ _ (c .before .before .pre) (subst (Tallied _ _ _) (c .if1 .left) (c .before .tally .ensures))
 
 pub check-spec : {M : Type 1} → statement M
 check-spec =

@@ -18,28 +18,32 @@ loop-holds c = walk-start _ _ _ _ _ (c .pre .1 .0)
 fits-requires : tie.Need-fits-requires Inv-loop μ-loop
 fits-requires c κs = c .loop .inv .used .below
 
-read-requires : tie.Need-read-requires Inv-loop μ-loop
-read-requires c κs = c .before .before .loop .inv .used .below
+under-word-requires : tie.Need-under-word-requires Inv-loop μ-loop
+under-word-requires c κs =
+    let b = c .before .before .loop .inv .used .below in
+    (omega arith, c .before .before .before .pre .1 .1 .1)
+
+follow-requires : tie.Need-follow-requires Inv-loop μ-loop
+follow-requires c κs = let b = c .before .before .before .before .loop .inv .used .below in omega arith
+
+loop-less : tie.Need-loop-less Inv-loop μ-loop
+loop-less c =
+    let d = c .before in
+    let a = d .before .before .before .before in
+    falls _ _ _ _ (a .before .pre .0) (a .loop .inv .used) (a .before .pre .1 .1 .0) (yes (d .before .under-word .ensures) (d .if2 .taken)) (c .follow .ensures)
+
+loop-again : tie.Need-loop-again Inv-loop μ-loop
+loop-again c =
+    let d = c .before in
+    let a = d .before .before .before .before in
+    walk-on _ _ _ _ _ _ _ (a .before .pre .0) (a .loop .inv) (yes (d .before .before .before .fits2 .ensures) (d .before .before .if1 .taken)) (a .before .pre .1 .1 .0)
+    (yes (d .before .under-word .ensures) (d .if2 .taken)) (c .follow .ensures)
 
 returns : tie.Need-returns Inv-loop μ-loop
 returns c =
     let a = c .before .before .before .before in
+    let n = no (c .before .under-word .ensures) (c .if2 .left) in
     walk-ends _ _ _ _ _ _ (a .before .pre .0) (a .loop .inv) (yes (c .before .before .before .fits2 .ensures) (c .before .before .if1 .taken)) (omega arith)
-
-sub-at : tie.Need-sub-at Inv-loop μ-loop
-sub-at c =
-    let a = c .before .before .before .before in
-    falls _ _ _ (a .before .pre .0) (a .loop .inv .used) (a .before .pre .1 .1) (omega arith) _ (c .before .read .ensures .lb) .0
-
-loop-less : tie.Need-loop-less Inv-loop μ-loop
-loop-less c =
-    let a = c .before .before .before .before in
-    falls _ _ _ (a .before .pre .0) (a .loop .inv .used) (a .before .pre .1 .1) (omega arith) _ (c .before .read .ensures .lb) .1
-
-loop-again : tie.Need-loop-again Inv-loop μ-loop
-loop-again c =
-    let a = c .before .before .before .before in
-    walk-on _ _ _ _ _ _ _ (a .before .pre .0) (a .loop .inv) (yes (c .before .before .before .fits2 .ensures) (c .before .before .if1 .taken)) (a .before .pre .1 .1) (omega arith) (c .before .read .ensures .lb)
 
 returns-2 : tie.Need-returns-2 Inv-loop μ-loop
 returns-2 c = walk-stops _ _ _ _ _ _ (c .before .before .loop .inv) (no (c .before .fits2 .ensures) (c .if1 .left))
@@ -52,9 +56,9 @@ column-spec =
     μ-loop
     loop-holds
     fits-requires
-    read-requires
-    returns
-    sub-at
+    under-word-requires
+    follow-requires
     loop-less
     loop-again
+    returns
     returns-2)

@@ -17,7 +17,7 @@ returns c = corner-none _ _ (c .before .before .corner .ensures) (omega arith)
 column-requires : tie.Need-column-requires
 column-requires c κs =
     let a = c .before .before in
-    (a .before .pre, (corner-used _ _ (a .corner .ensures) (omega arith), omega arith))
+    (a .before .pre, (corner-used _ _ (a .before .pre) (a .corner .ensures) (omega arith), (omega arith, omega arith)))
 
 returns-2 : tie.Need-returns-2
 returns-2 c = corner-column _ _ _ (c .before .before .before .corner .ensures) (omega arith) (c .column .ensures)

@@ -11,33 +11,30 @@ read-requires c κs = search needs
 returns : tie.Need-returns
 returns c = search needs
 
-returns-2 : tie.Need-returns-2
-returns-2 c = search needs
-
-sub-twin : tie.Need-sub-twin
-sub-twin c =
-    let a = c .before .before in
-    above _ _ _ (a .before .pre .0) (a .before .pre .1) (a .read .ensures) (c .before .if1 .left) (c .if2 .left) .0
+follow-requires : tie.Need-follow-requires
+follow-requires c κs = search needs
 
 twin-requires : tie.Need-twin-requires
 twin-requires c κs =
     let a = c .before .before in
-    above _ _ _ (a .before .pre .0) (a .before .pre .1) (a .read .ensures) (c .before .if1 .left) (c .if2 .left) .1
+    let p = a .before .pre in
+    above _ _ _ _ (p .0) (p .1 .0) (a .read .ensures) (c .before .if1 .left) (c .follow .ensures)
+
+returns-2 : tie.Need-returns-2
+returns-2 c =
+    let d = c .before .before in
+    let a = d .before .before in
+    let p = a .before .pre in
+    let w = yes (c .before .twin .ensures) (c .if2 .taken) in
+    (λ b. absurd b, twin-of _ _ _ _ (p .0) (p .1 .0) (a .read .ensures) (d .before .if1 .left) (d .follow .ensures) (p .1 .1) w)
 
 returns-3 : tie.Need-returns-3
 returns-3 c =
     let d = c .before .before in
     let a = d .before .before in
-    let w = yes (c .before .twin .ensures) (c .if3 .taken) in
-    (λ b. absurd b, λ u. twin-of _ _ _ (a .before .pre .0) (a .before .pre .1) (a .read .ensures) (d .before .if1 .left) (d .if2 .left) w u)
-
-returns-4 : tie.Need-returns-4
-returns-4 c =
-    let d = c .before .before in
-    let a = d .before .before in
-    let n = no (c .before .twin .ensures) (c .if3 .left) in
-    (λ _. of-twin _ _ _ (a .before .pre .0) (a .before .pre .1) (a .read .ensures) (d .before .if1 .left) (d .if2 .left) n, λ _. tt)
+    let p = a .before .pre in
+    let n = no (c .before .twin .ensures) (c .if2 .left) in
+    (λ _. of-twin _ _ _ _ (p .0) (p .1 .0) (a .read .ensures) (d .before .if1 .left) (d .follow .ensures) n, λ _. tt)
 
 pub unstacked-spec : {M : Type 1} → statement M
-unstacked-spec =
-    tie.close (tie.spec read-requires returns returns-2 sub-twin twin-requires returns-3 returns-4)
+unstacked-spec = tie.close (tie.spec read-requires returns follow-requires twin-requires returns-2 returns-3)

@@ -10,7 +10,7 @@ use Rattle.geometry.specs.Cases.{lt-cases, eq-cases}
 use Rattle.table.specs.Sound.{SizeRight}
 use Rattle.table.specs.Fresh.{freshTable}
 use Rattle.table.specs.FreshSound.{fresh-length, fresh-sound}
-use Rattle.layout.specs.Bytes.{savedAt}
+use Rattle.layout.specs.Bytes.{savedAt, SAVED}
 use Rattle.ushanderi.specs.Answers.{DONE, SIZE, FILE, answered, accepted, refused}
 use Rattle.ushanderi.specs.declared.answer.Answer.{Answer}
 use Rattle.ushanderi.specs.Promises.{Fit, CreateRefuses, CreateDone, CreateSays, areaIn, Built, LoadStops, LoadSays}
@@ -92,19 +92,19 @@ module _ (t : List ℤ) (bs : List ℕ) where
   record Stopped (s : SizeRight t) (t′ : List ℤ) (a : Answer) : Type 0 where
     n : ℕ
     number : ℕ
-    below : n < length bs / 20
+    below : n < length bs / SAVED
     stop : Stop t s bs n number
     is : a ≡ answered number n
     fresh : t′ ≡ freshTable (length t)
 
   data Ended (s : SizeRight t) (t′ : List ℤ) (a : Answer) : Type 0 where
     stopped : Stopped s t′ a → Ended s t′ a
-    done : Built (length t) bs (length bs / 20) t′ → a ≡ accepted (length bs / 20) → Ended s t′ a
+    done : Built (length t) bs (length bs / SAVED) t′ → a ≡ accepted (length bs / SAVED) → Ended s t′ a
 
   abbrev Checked : List ℤ → Answer → Type 0
   Checked t′ a =
       Then (SizeRight t → ⊥) ((a ≡ refused SIZE) × (t′ ≡ t))
-      (SizeRight t × Then (length bs % 20 ≢ 0) ((a ≡ refused FILE) × (t′ ≡ t)) ((s : SizeRight t) → Ended s t′ a))
+      (SizeRight t × Then (length bs % SAVED ≢ 0) ((a ≡ refused FILE) × (t′ ≡ t)) ((s : SizeRight t) → Ended s t′ a))
 
   load-order : (t′ : List ℤ) (a : Answer) → LoadSays t bs t′ a → Checked t′ a
   load-order t′ a (LoadSays.size n e w) = stops n (e, w)
@@ -132,10 +132,10 @@ module _ (t : List ℤ) (bs : List ℕ) where
         let (e, d) = stop-one t s bs (q .n) (p .n) (q .number) (p .number) (q .stop) (p .stop) in
         refused-same (p .number) (p .n) (freshTable (length t)) (λ e. refuses-not-done (p .stop .refuses) (ap pos e)) (p .is, p .fresh)
         (subst (λ n. b ≡ answered (p .number) n) e (subst (λ c. b ≡ answered c (q .n)) d (q .is)), q .fresh)
-    ended-same s (stopped p) (done c e) = absurd (no-step t s bs (p .n) (p .number) (p .stop) (step-of t s bs (length bs / 20) v c (p .n) (p .below)))
-    ended-same s (done c e) (stopped q) = absurd (no-step t s bs (q .n) (q .number) (q .stop) (step-of t s bs (length bs / 20) u c (q .n) (q .below)))
+    ended-same s (stopped p) (done c e) = absurd (no-step t s bs (p .n) (p .number) (p .stop) (step-of t s bs (length bs / SAVED) v c (p .n) (p .below)))
+    ended-same s (done c e) (stopped q) = absurd (no-step t s bs (q .n) (q .number) (q .stop) (step-of t s bs (length bs / SAVED) u c (q .n) (q .below)))
     ended-same s (done c e) (done d g) =
-        let l = built-alike t s bs (length bs / 20) (length bs / 20) u v refl c d in
+        let l = built-alike t s bs (length bs / SAVED) (length bs / SAVED) u v refl c d in
         record {
           answer = join e g;
           refused = λ h. absurd (h (number-is e));

@@ -17,6 +17,7 @@ use Rattle.seek.specs.Search.{first-one, free-no-first}
 use Rattle.seek.specs.Order.{directed-one}
 use Rattle.layout.specs.Order.{Saves}
 use Rattle.layout.specs.OneOrder.{order-length, saves-agree}
+use Rattle.layout.specs.Bytes.{SAVED}
 use Rattle.ushanderi.specs.Answers.{POINT, RECT, SIDE, SHORT, answered, accepted, refused, nothing}
 use Rattle.ushanderi.specs.declared.answer.Answer.{Answer}
 use Rattle.ushanderi.specs.Promises.{Unfit, Fit, FreshSays, CheckSays, ViewSays, FindSays, listed, NeighboursSays, SearchSays, EnumerateSays, SaveSays}
@@ -227,13 +228,13 @@ record Put (t : List ℤ) (out out′ : List ℕ) (a : Answer) : Type 0 where
 abbrev SavedOr : List ℤ → List ℕ → List ℕ → Answer → Type 0
 SavedOr t out out′ a =
     Then (NotFit t) (Unfit t a × (out′ ≡ out))
-    (Then (length out < 20 * solidsIn t) ((a ≡ answered SHORT (20 * solidsIn t)) × (out′ ≡ out)) (Put t out out′ a))
+    (Then (length out < SAVED * solidsIn t) ((a ≡ answered SHORT (SAVED * solidsIn t)) × (out′ ≡ out)) (Put t out out′ a))
 
 save-order : (t : List ℤ) (out out′ : List ℕ) (a : Answer) → SaveSays t out out′ a → SavedOr t out out′ a
 save-order t out out′ a (SaveSays.unfit n w) = stops (not-fit t a n) (n, w)
 save-order t out out′ a (SaveSays.short f ks l o e w) =
     let c = order-length t ks l in
-    goes (λ m. m f) (stops (omega arith) (e ∙ ap (λ n. answered SHORT (20 * n)) c, w))
+    goes (λ m. m f) (stops (omega arith) (e ∙ ap (λ n. answered SHORT (SAVED * n)) c, w))
 save-order t out out′ a (SaveSays.done f n s o e) =
     let c = order-length t (s .solids) (s .lists) in
     goes (λ m. m f) (goes (λ h. omega (arith, s .number)) (record { bytes = n; saves = s; is = e }))

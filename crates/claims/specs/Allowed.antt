@@ -14,6 +14,7 @@ use Rattle.seek.specs.Neighbours.{sideOf, Neighbours}
 use Rattle.seek.specs.Search.{first-one, free-no-first}
 use Rattle.layout.specs.Order.{Saves}
 use Rattle.layout.specs.OneOrder.{order-length, saves-bytes}
+use Rattle.layout.specs.Bytes.{SAVED}
 use Rattle.ushanderi.specs.Answers.{OCCUPIED, FULL, POINT, SPACE, answered, accepted, refused, nothing}
 use Rattle.ushanderi.specs.declared.answer.Answer.{Answer}
 use Rattle.ushanderi.specs.Edits.{labelIn}
@@ -25,8 +26,8 @@ use Rattle.claims.specs.Terms.{Created}
 
 -- what an accepted save says
 pub record Saved (t : List ℤ) (out out′ : List ℕ) (a : Answer) : Type 0 where
-  pub is : a ≡ accepted (20 * solidsIn t)
-  pub saves : Saves t out out′ (20 * solidsIn t)
+  pub is : a ≡ accepted (SAVED * solidsIn t)
+  pub saves : Saves t out out′ (SAVED * solidsIn t)
 
 -- no create is refused where none of its checks holds
 pub never-refused : {t : List ℤ} {A : Area} {label : ℕ} {a : Answer} → CreateAllows t A label → CreateRefuses t A label a → ⊥
@@ -110,7 +111,7 @@ module _ (t : List ℤ) (f : Fit t) where
 
   -- ---- save
 
-  pub saves : (out out′ : List ℕ) (a : Answer) → 20 * solidsIn t ≤ length out → SaveSays t out out′ a → Saved t out out′ a
+  pub saves : (out out′ : List ℕ) (a : Answer) → SAVED * solidsIn t ≤ length out → SaveSays t out out′ a → Saved t out out′ a
   saves out out′ a l (SaveSays.unfit u e) = absurd (not-fit t a u f)
   saves out out′ a l (SaveSays.short g ks s h e w) = absurd (omega (arith, order-length t ks s))
   saves out out′ a l (SaveSays.done g n s h e) =

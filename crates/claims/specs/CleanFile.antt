@@ -10,7 +10,7 @@ use Rattle.table.specs.Words.{recordsOf, tileOf}
 use Rattle.table.specs.Sound.{SizeRight, capacity}
 use Rattle.table.specs.FreshSound.{fresh-length}
 use Rattle.seek.specs.Meaning.{InArea, RectRight, FreeArea}
-use Rattle.layout.specs.Bytes.{savedAt}
+use Rattle.layout.specs.Bytes.{savedAt, SAVED}
 use Rattle.ushanderi.specs.Answers.{accepted}
 use Rattle.ushanderi.specs.declared.answer.Answer.{Answer}
 use Rattle.ushanderi.specs.Promises.{CreateAllows, areaIn, Built, LoadStops, LoadSays}
@@ -27,14 +27,14 @@ module _ (t : List ℤ) (s : SizeRight t) (bs : List ℕ) where
   built-length n u (Built.more {n = m} {u = w} b k c) = c .edited .size ∙ built-length m w b
 
   module _ (c : Clean bs (capacity (recordsOf t))) where
-    next-free : (n : ℕ) (u : List ℤ) → n < length bs / 20 → Kept u (filed bs n) → FreeArea u (areaIn bs n)
+    next-free : (n : ℕ) (u : List ℤ) → n < length bs / SAVED → Kept u (filed bs n) → FreeArea u (areaIn bs n)
     next-free n u h k x y a i o p =
         let (m, b, e) = among-filed bs n (tileOf u i) (k .solids (tileOf u i) .1 (shows u i o)) in
         let q : Has (filedAt bs m) x y = subst (λ v. Has v x y) e p in
         c .apart m n x y b h (omega (arith, q)) a
 
     -- so no create is refused
-    next-allowed : (n : ℕ) (u : List ℤ) → n < length bs / 20 → Built (length t) bs n u → CreateAllows u (areaIn bs n) (savedAt bs n .label)
+    next-allowed : (n : ℕ) (u : List ℤ) → n < length bs / SAVED → Built (length t) bs n u → CreateAllows u (areaIn bs n) (savedAt bs n .label)
     next-allowed n u h b =
         let k = built-kept t s bs n u b in
         record {
@@ -45,7 +45,7 @@ module _ (t : List ℤ) (s : SizeRight t) (bs : List ℕ) where
           few = omega (arith, c .few, k .number, filed-length bs n, built-length n u b);
         }
 
-    pub clean-loads : (t′ : List ℤ) (a : Answer) → LoadSays t bs t′ a → (a ≡ accepted (length bs / 20)) × Built (length t) bs (length bs / 20) t′
+    pub clean-loads : (t′ : List ℤ) (a : Answer) → LoadSays t bs t′ a → (a ≡ accepted (length bs / SAVED)) × Built (length t) bs (length bs / SAVED) t′
     clean-loads t′ a (LoadSays.size n e w) = absurd (n s)
     clean-loads t′ a (LoadSays.file z n e w) = absurd (n (c .whole))
     clean-loads t′ a (LoadSays.stopped (LoadStops.stops z r n number value u h b d e) w) = absurd (never-refused (next-allowed n u h b) d)

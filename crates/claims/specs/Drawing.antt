@@ -6,7 +6,7 @@ use lib.IntN.{negsuc, pos, ℤ}
 use Rattle.ruler.specs.Ruler.{ruler}
 use Rattle.claims.specs.History.{Among}
 use Rattle.ushanderi.specs.Promises.{Fit}
-use mathlib.Core.List.{List}
+use mathlib.Core.List.{List, _++_, _∷_}
 use Rattle.claims.specs.Terms.{Shows}
 use Rattle.table.specs.Sound.{SolidIn}
 use Rattle.table.specs.Words.{tileOf}
@@ -54,3 +54,11 @@ pub record Draws (t : List ℤ) (vs : List Tile) : Type 0 where
 -- a solid's rectangle
 abbrev pub areaOf : Tile → Area
 areaOf v = record { left = v .left; bottom = v .bottom; right = v .right; top = v .top }
+
+-- a record: left, bottom, right, top, tr, rt, bl, lb, kind, label
+abbrev pub rec : ℤ → ℤ → ℤ → ℤ → ℤ → ℤ → ℤ → ℤ → ℕ → ℕ → List ℤ
+rec l b r t tr rt bl lb kind label = l ∷ b ∷ r ∷ t ∷ tr ∷ rt ∷ bl ∷ lb ∷ pos kind ∷ pos label ∷ []
+
+-- the same in the next record
+unfoldable pub fullNext : List ℤ
+fullNext = free 1 ++ rec -E -E E E (neg 1) (neg 1) (neg 1) (neg 1) 2 1 ++ free 18

@@ -14,7 +14,7 @@ use Rattle.table.specs.Words.{LEFT, BOTTOM, RIGHT, TOP, KIND, recordsOf, num, t
 use Rattle.table.specs.Sound.{SizeRight, Sound, SoundFor, UsedIn, Stitched, capacity, solidsIn, spacesIn}
 use Rattle.table.specs.View.{Slice}
 use Rattle.seek.specs.Meaning.{Area}
-use Rattle.layout.specs.Bytes.{savedAt}
+use Rattle.layout.specs.Bytes.{savedAt, SAVED}
 use Rattle.ushanderi.specs.Answers.{DONE, SIZE, FILE}
 use Rattle.ushanderi.specs.declared.answer.Answer.{Answer}
 use Rattle.ushanderi.specs.Edits.{drawn}
@@ -61,7 +61,7 @@ filed bs (suc n) = filedAt bs n ∷ filed bs n
 -- ends well.
 pub data Begins (t t′ : List ℤ) : List Tile → Type 0 where
   fresh : {a : Answer} → FreshSays t t′ a → a .number ≡ pos DONE → Begins t t′ []
-  load : {bs : List ℕ} {a : Answer} → LoadSays t bs t′ a → a .number ≡ pos DONE → Begins t t′ (filed bs (length bs / 20))
+  load : {bs : List ℕ} {a : Answer} → LoadSays t bs t′ a → a .number ≡ pos DONE → Begins t t′ (filed bs (length bs / SAVED))
   load-refused : {bs : List ℕ} {a : Answer} → LoadSays t bs t′ a → LoadStops t bs a → Begins t t′ []
 
 -- One call: the table and the account before it and after it. That a call which only reads leaves the table is said here, since its promise names one

@@ -11,7 +11,7 @@ use Rattle.geometry.specs.Picture.{Tile}
 use Rattle.table.specs.Sound.{SizeRight}
 use Rattle.table.specs.Fresh.{freshTable}
 use Rattle.seek.specs.Meaning.{Area}
-use Rattle.layout.specs.Bytes.{savedAt}
+use Rattle.layout.specs.Bytes.{savedAt, SAVED}
 use Rattle.ushanderi.specs.Answers.{DONE, SIZE, FILE, answered}
 use Rattle.ushanderi.specs.declared.answer.Answer.{Answer}
 use Rattle.ushanderi.specs.Promises.{Fit, FreshSays, CreateRefuses, CreateSays, DeleteSays, areaIn, Built, LoadStops, LoadSays}
@@ -33,7 +33,7 @@ fresh-left t t′ a (FreshSays.done s e w) h = absurd (h (number-is e))
 -- ---- load
 
 pub load-done : (t : List ℤ) (bs : List ℕ) (t′ : List ℤ) (a : Answer) → LoadSays t bs t′ a → a .number ≡ pos DONE
-    → SizeRight t × Built (length t) bs (length bs / 20) t′
+    → SizeRight t × Built (length t) bs (length bs / SAVED) t′
 load-done t bs t′ a (LoadSays.size n e w) h = absurd (not-done e (λ e. omega arith) h)
 load-done t bs t′ a (LoadSays.file s n e w) h = absurd (not-done e (λ e. omega arith) h)
 load-done t bs t′ a (LoadSays.stopped (LoadStops.stops s z n c i u l b r e) w) h = absurd (refuses-not-done r (sym (number-is e) ∙ h))

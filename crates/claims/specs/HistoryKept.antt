@@ -17,7 +17,7 @@ use Rattle.table.specs.Fresh.{freshTable}
 use Rattle.table.specs.FreshSound.{OneTile, fresh-one}
 use Rattle.table.specs.Forms.{sound-three}
 use Rattle.seek.specs.Meaning.{Area}
-use Rattle.layout.specs.Bytes.{savedAt}
+use Rattle.layout.specs.Bytes.{savedAt, SAVED}
 use Rattle.ushanderi.specs.Edits.{drawn}
 use Rattle.ushanderi.specs.Promises.{Fit, CreateDone, DeleteDone, areaIn, Built}
 use Rattle.claims.specs.AgreeChecks.{fit-forms, fit-finds-one, solid-used}
@@ -133,7 +133,7 @@ begins-shown : (t t′ : List ℤ) (S : List Tile) → Begins t t′ S → Shown
 begins-shown t t′ S (Begins.fresh {a = a} c h) = let (s, w) = fresh-done t t′ a c h in subst (λ t. Shown t []) (sym w) (fresh-shown t s)
 begins-shown t t′ S (Begins.load {bs = bs} {a = a} c h) =
     let (s, b) = load-done t bs t′ a c h in
-    built-shown t s bs (length bs / 20) (length bs / 20) t′ refl b
+    built-shown t s bs (length bs / SAVED) (length bs / SAVED) t′ refl b
 begins-shown t t′ S (Begins.load-refused {bs = bs} {a = a} c h) =
     let (s, w) = load-fresh t bs t′ a c h in
     subst (λ t. Shown t []) (sym w) (fresh-shown t s)

@@ -13,6 +13,7 @@ use Rattle.table.specs.Words.{WIDTH, LABEL, recordsOf, num, tileOf}
 use Rattle.table.specs.Sound.{SizeRight, capacity, solidsIn}
 use Rattle.layout.specs.OneOrder.{order-length}
 use Rattle.layout.specs.Order.{LabelsFit}
+use Rattle.layout.specs.Bytes.{SAVED}
 use Rattle.ushanderi.specs.Answers.{accepted}
 use Rattle.ushanderi.specs.declared.answer.Answer.{Answer}
 use Rattle.ushanderi.specs.Promises.{Fit, SaveSays, LoadSays}
@@ -26,15 +27,15 @@ use Rattle.claims.specs.Terms.{SamePicture}
 
 -- ---- save, then load
 
-pub save-accepted : (t : List ℤ) (out out′ : List ℕ) (a : Answer) → Fit t → 20 * solidsIn t ≤ length out → SaveSays t out out′ a
-    → a ≡ accepted (20 * solidsIn t)
+pub save-accepted : (t : List ℤ) (out out′ : List ℕ) (a : Answer) → Fit t → SAVED * solidsIn t ≤ length out → SaveSays t out out′ a
+    → a ≡ accepted (SAVED * solidsIn t)
 save-accepted t out out′ a f h s = saves t f out out′ a h s .is
 
 -- t is sound and its labels are words, the list takes the bytes of its solids, and u takes as many solids
 pub record Between (t u : List ℤ) (out : List ℕ) : Type 0 where
   pub fit : Fit t
   pub labels : LabelsFit t
-  pub list : 20 * solidsIn t ≤ length out
+  pub list : SAVED * solidsIn t ≤ length out
   pub size : SizeRight u
   pub room : solidsIn t ≤ capacity (recordsOf u)
 
@@ -46,24 +47,24 @@ pub record Restored (t u u′ : List ℤ) (b : Answer) : Type 0 where
   pub size : length u′ ≡ length u
 
 pub round-trip : (t u u′ : List ℤ) (out out′ : List ℕ) (a b : Answer) → Between t u out → SaveSays t out out′ a
-    → LoadSays u (take (20 * solidsIn t) out′) u′ b → Restored t u u′ b
+    → LoadSays u (take (SAVED * solidsIn t) out′) u′ b → Restored t u u′ b
 round-trip t u u′ out out′ a b w s r =
     let v = saves t (w .fit) out out′ a (w .list) s .saves in
     let ks = v .solids in
     let file = savedFile t ks in
     let (e, d) = clean-loads u (w .size) file (saved-clean t (w .fit) (w .labels) ks (v .lists) (capacity (recordsOf u)) (w .room)) u′ b
-    (subst (λ bs. LoadSays u bs u′ b) (saved-bytes t out out′ (20 * solidsIn t) v) r) in
-    let k = built-kept u (w .size) file (length file / 20) u′ d in
+    (subst (λ bs. LoadSays u bs u′ b) (saved-bytes t out out′ (SAVED * solidsIn t) v) r) in
+    let k = built-kept u (w .size) file (length file / SAVED) u′ d in
     record {
       is = e ∙ ap accepted (saved-number t ks ∙ order-length t ks (v .lists));
       picture = saved-picture t (w .fit) (w .labels) ks (v .lists) u′ k;
       fit = record { size = k .size; sound = k .sound };
-      size = built-length u (w .size) file (length file / 20) u′ d;
+      size = built-length u (w .size) file (length file / SAVED) u′ d;
     }
 
 -- what was loaded is saved as the bytes that it was loaded from
 pub saved-again : (t u u′ : List ℤ) (out o o′ : List ℕ) (a b c : Answer) → Between t u out → SaveSays t out o a
-    → LoadSays u (take (20 * solidsIn t) o) u′ b → SaveSays u′ out o′ c → (c ≡ a) × (o′ ≡ o)
+    → LoadSays u (take (SAVED * solidsIn t) o) u′ b → SaveSays u′ out o′ c → (c ≡ a) × (o′ ≡ o)
 saved-again t u u′ out o o′ a b c w s r q =
     let k = round-trip t u u′ out o a b w s r in
     let (e, d) = save-by-picture t u′ (w .fit) (k .fit) (k .picture) out o o′ a c s q in
@@ -77,7 +78,7 @@ unfolding num
 lent-labels t w i s = ruler-fits (getD t (WIDTH * i + LABEL) (pos 0)) (w (WIDTH * i + LABEL))
 
 -- and those of a table after any history, so that nothing more is asked of it
-pub history-between : (t u : List ℤ) (out : List ℕ) (S : List Tile) → History t S → 20 * solidsIn t ≤ length out → SizeRight u
+pub history-between : (t u : List ℤ) (out : List ℕ) (S : List Tile) → History t S → SAVED * solidsIn t ≤ length out → SizeRight u
     → solidsIn t ≤ capacity (recordsOf u) → Between t u out
 history-between t u out S h l z r =
     let k = history-kept h in

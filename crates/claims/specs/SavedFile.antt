@@ -12,7 +12,7 @@ use Rattle.table.specs.Words.{tileOf}
 use Rattle.table.specs.Sound.{solidsIn, SolidIn}
 use Rattle.seek.specs.Meaning.{Area, InArea, RectRight, Lists}
 use Rattle.layout.specs.declared.bytes.Saved.{Saved}
-use Rattle.layout.specs.Bytes.{fileBytes, savedAt}
+use Rattle.layout.specs.Bytes.{fileBytes, savedAt, SAVED}
 use Rattle.layout.specs.BytesLaws.{file-length, saved-file}
 use Rattle.layout.specs.Order.{Comes, savedOf, Saves, LabelsFit}
 use Rattle.layout.specs.OneOrder.{comes-asym, order-length}
@@ -37,7 +37,7 @@ areaBy s = record { left = s .left; bottom = s .bottom; right = s .right; top = 
 abbrev pub savedFile : List ℤ → List ℕ → List ℕ
 savedFile t ks = fileBytes (map (savedOf t) ks)
 
-pub saved-number : (t : List ℤ) (ks : List ℕ) → length (savedFile t ks) / 20 ≡ length ks
+pub saved-number : (t : List ℤ) (ks : List ℕ) → length (savedFile t ks) / SAVED ≡ length ks
 saved-number t ks = omega (arith, file-length (map (savedOf t) ks), length-map ks (savedOf t))
 
 module _ (t : List ℤ) (f : Fit t) (fits : LabelsFit t) (ks : List ℕ) (l : Lists (SolidIn t) (Comes t) ks) where
@@ -97,14 +97,14 @@ module _ (t : List ℤ) (f : Fit t) (fits : LabelsFit t) (ks : List ℕ) (l : Li
     few = omega (arith, saved-number t ks, order-length t ks l);
   }
 
-  pub saved-picture : (u : List ℤ) → Kept u (filed file (length file / 20)) → SamePicture t u
+  pub saved-picture : (u : List ℤ) → Kept u (filed file (length file / SAVED)) → SamePicture t u
   saved-picture u k v = (
     λ s.
         let (n, h, e) = l .all (s .at) (s .solid) in
-        let q = filed-among file (length file / 20) n (omega (arith, saved-number t ks)) in
-        k .solids v .0 (subst (Among (filed file (length file / 20))) (filed-nth n h ∙ ap (tileOf t) e ∙ s .is) q),
+        let q = filed-among file (length file / SAVED) n (omega (arith, saved-number t ks)) in
+        k .solids v .0 (subst (Among (filed file (length file / SAVED))) (filed-nth n h ∙ ap (tileOf t) e ∙ s .is) q),
     λ s.
-        let (n, h, e) = among-filed file (length file / 20) v (k .solids v .1 s) in
+        let (n, h, e) = among-filed file (length file / SAVED) v (k .solids v .1 s) in
         let b : n < length ks = omega (arith, saved-number t ks) in
         record { at = getD ks n 0; solid = l .each n b; is = sym (filed-nth n b) ∙ sym e },
   )
@@ -114,7 +114,7 @@ pub saved-bytes : (t : List ℤ) (out out′ : List ℕ) (bytes : ℕ) (s : Save
 saved-bytes t out out′ bytes s =
     let ss = map (savedOf t) (s .solids) in
     ap (take bytes) (s .writes)
-    ∙ take-at (fileBytes ss) (drop bytes out) bytes (file-length ss ∙ ap (λ n. 20 * n) (length-map (s .solids) (savedOf t)) ∙ sym (s .number))
+    ∙ take-at (fileBytes ss) (drop bytes out) bytes (file-length ss ∙ ap (λ n. SAVED * n) (length-map (s .solids) (savedOf t)) ∙ sym (s .number))
 
 -- ---- save depends on the picture alone
 
@@ -153,13 +153,13 @@ module _ (t u : List ℤ) (f : Fit t) (g : Fit u) (p : SamePicture t u) where
   saves-too out out′ a (SaveSays.unfit n w) = absurd (not-fit t a n f)
   saves-too out out′ a (SaveSays.short o ks l h e w) =
       let q = length-map ks ρ in
-      SaveSays.short g (map ρ ks) (solids-renamed ks l) (omega arith) (e ∙ ap (λ n. answered SHORT (20 * n)) (sym q)) w
+      SaveSays.short g (map ρ ks) (solids-renamed ks l) (omega arith) (e ∙ ap (λ n. answered SHORT (SAVED * n)) (sym q)) w
   saves-too out out′ a (SaveSays.done o n s h e) =
       SaveSays.done g n
       (record {
         solids = map ρ (s .solids);
         lists = solids-renamed (s .solids) (s .lists);
-        number = s .number ∙ ap (λ n. 20 * n) (sym (length-map (s .solids) ρ));
+        number = s .number ∙ ap (λ n. SAVED * n) (sym (length-map (s .solids) ρ));
         writes = s .writes ∙ ap (λ ss. fileBytes ss ++ drop n out) (sym (saved-renamed (s .solids) (s .lists .each)));
       })
       h e

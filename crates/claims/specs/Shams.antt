@@ -19,6 +19,7 @@ use Rattle.table.specs.FreshSound.{fresh-length}
 use Rattle.seek.specs.Meaning.{Area, InArea, RectRight, FreeArea, Directed}
 use Rattle.seek.specs.Find.{Finds}
 use Rattle.seek.specs.Neighbours.{sideOf, Neighbours}
+use Rattle.layout.specs.Bytes.{SAVED}
 use Rattle.ushanderi.specs.Answers.{DONE, SIZE, UNSOUND, RECT, SHORT, answered, accepted, nothing}
 use Rattle.ushanderi.specs.declared.answer.Answer.{Answer}
 use Rattle.ushanderi.specs.Promises.{Unfit, Fit, FreshSays, CheckSays, ViewSays, FindSays, listed, NeighboursSays, SearchSays, EnumerateSays, CreateAllows, CreateSays, DeleteSays, SaveSays, LoadSays}
@@ -59,7 +60,7 @@ pub record NoRefusal : Type 0 where
       → ((ks : List ℕ) → Directed t R ks → length ks ≤ length out) → EnumerateSays t R out out′ a → Refuses a → ⊥
   pub create : (t : List ℤ) (R : Area) (label : ℕ) (t′ : List ℤ) (a : Answer) → CreateAllows t R label → CreateSays t R label t′ a → Refuses a → ⊥
   pub delete : (t : List ℤ) (x y i : ℕ) (t′ : List ℤ) (a : Answer) → Fit t → Finds t x y i → SolidIn t i → DeleteSays t x y t′ a → Refuses a → ⊥
-  pub save : (t : List ℤ) (out out′ : List ℕ) (a : Answer) → Fit t → 20 * solidsIn t ≤ length out → SaveSays t out out′ a → Refuses a → ⊥
+  pub save : (t : List ℤ) (out out′ : List ℕ) (a : Answer) → Fit t → SAVED * solidsIn t ≤ length out → SaveSays t out out′ a → Refuses a → ⊥
   pub load : (t t′ : List ℤ) (bs : List ℕ) (a : Answer) → SizeRight t → Clean bs (capacity (recordsOf t)) → LoadSays t bs t′ a → Refuses a → ⊥
 
 no-refused-fresh : (t t′ : List ℤ) (a : Answer) → SizeRight t → FreshSays t t′ a → Refuses a → ⊥
@@ -110,8 +111,8 @@ no-refusal = record {
   enumerate = no-refused-enumerate;
   create = no-refused-create;
   delete = λ t x y i t′ a f h o s r. accepts a _ (deletes t f x y i h t′ a o s .0) r;
-  save = λ t out out′ a f l s r. accepts a (20 * solidsIn t) (saves t f out out′ a l s .is) r;
-  load = λ t t′ bs a z c s r. accepts a (length bs / 20) (clean-loads t z bs c t′ a s .0) r;
+  save = λ t out out′ a f l s r. accepts a (SAVED * solidsIn t) (saves t f out out′ a l s .is) r;
+  load = λ t t′ bs a z c s r. accepts a (length bs / SAVED) (clean-loads t z bs c t′ a s .0) r;
 }
 
 -- as with A, B and C at (9, 9)
@@ -169,17 +170,17 @@ fresh-writes t t′ v a z s (FreshSays.size n e w) q = n z
 fresh-writes t t′ v a z s (FreshSays.done y e w) q = fresh-shows t z v (subst (λ t. Shows t v) (sym q ∙ w) s)
 
 -- load of whole records, where the table has a solid that the file has not
-pub load-writes : (t t′ : List ℤ) (bs : List ℕ) (v : Tile) (a : Answer) → SizeRight t → length bs % 20 ≡ 0 → Shows t v
-    → (Among (filed bs (length bs / 20)) v → ⊥) → LoadSays t bs t′ a → t′ ≡ t → ⊥
+pub load-writes : (t t′ : List ℤ) (bs : List ℕ) (v : Tile) (a : Answer) → SizeRight t → length bs % SAVED ≡ 0 → Shows t v
+    → (Among (filed bs (length bs / SAVED)) v → ⊥) → LoadSays t bs t′ a → t′ ≡ t → ⊥
 load-writes t t′ bs v a z d s m (LoadSays.size n e w) q = n z
 load-writes t t′ bs v a z d s m (LoadSays.file y n e w) q = n d
 load-writes t t′ bs v a z d s m (LoadSays.stopped c w) q = fresh-shows t z v (subst (λ t. Shows t v) (sym q ∙ w) s)
 load-writes t t′ bs v a z d s m (LoadSays.done y r b e) q =
-    m (built-kept t z bs (length bs / 20) t′ b .solids v .1 (subst (λ t. Shows t v) (sym q) s))
+    m (built-kept t z bs (length bs / SAVED) t′ b .solids v .1 (subst (λ t. Shows t v) (sym q) s))
 
 -- load that ends well, where the file has a solid that the table has not
 pub load-draws : (t t′ : List ℤ) (bs : List ℕ) (v : Tile) (a : Answer) → LoadSays t bs t′ a → a .number ≡ pos DONE
-    → Among (filed bs (length bs / 20)) v → (Shows t v → ⊥) → t′ ≡ t → ⊥
+    → Among (filed bs (length bs / SAVED)) v → (Shows t v → ⊥) → t′ ≡ t → ⊥
 load-draws t t′ bs v a s e i n q = n (subst (λ t. Shows t v) q (history-kept (History.start (Begins.load s e)) .solids v .0 i))
 
 -- ---- one whose second and later calls write nothing
@@ -204,18 +205,18 @@ second-fresh-writes t t₀ t₁ t₂ a₀ a₁ a₂ z f s₁ s₂ w =
 
 -- fresh and then a load that no check refuses, of one record or more
 pub second-load-writes : (t t₀ t₁ : List ℤ) (bs : List ℕ) (a₀ a₁ : Answer) → SizeRight t → FreshSays t t₀ a₀ → Clean bs (capacity (recordsOf t))
-    → 0 < length bs / 20 → LoadSays t₀ bs t₁ a₁ → t₁ ≡ t₀ → ⊥
+    → 0 < length bs / SAVED → LoadSays t₀ bs t₁ a₁ → t₁ ≡ t₀ → ⊥
 second-load-writes t t₀ t₁ bs a₀ a₁ z f c h s w =
     let e = fresh-agrees t t₀ (freshTable (length t)) a₀ (accepted 0) f (FreshSays.done z refl refl) .1 in
     let l : length t₀ ≡ length t = ap length e ∙ fresh-length (length t) (omega (arith, z .least)) in
     let y : SizeRight t₀ = omega (arith, z) in
     let d = clean-loads t₀ y bs (subst (λ n. Clean bs (capacity (n / WIDTH))) (sym l) c) t₁ a₁ s .0 in
-    load-draws t₀ t₁ bs (filedAt bs 0) a₁ s (number-is d) (filed-among bs (length bs / 20) 0 h)
+    load-draws t₀ t₁ bs (filedAt bs 0) a₁ s (number-is d) (filed-among bs (length bs / SAVED) 0 h)
     (λ o. fresh-shows t z (filedAt bs 0) (subst (λ t. Shows t (filedAt bs 0)) e o)) w
 
 -- a load that ends well and then another, of whole records, whose file lacks one of the solids
 pub load-after-load-writes : (t t₁ t₂ : List ℤ) (bs cs : List ℕ) (v : Tile) (a₁ a₂ : Answer) → LoadSays t bs t₁ a₁ → a₁ .number ≡ pos DONE
-    → Among (filed bs (length bs / 20)) v → length cs % 20 ≡ 0 → (Among (filed cs (length cs / 20)) v → ⊥) → LoadSays t₁ cs t₂ a₂ → t₂ ≡ t₁ → ⊥
+    → Among (filed bs (length bs / SAVED)) v → length cs % SAVED ≡ 0 → (Among (filed cs (length cs / SAVED)) v → ⊥) → LoadSays t₁ cs t₂ a₂ → t₂ ≡ t₁ → ⊥
 load-after-load-writes t t₁ t₂ bs cs v a₁ a₂ s₁ e i d m s₂ w =
     let k = history-kept (History.start (Begins.load s₁ e)) in
     load-writes t₁ t₂ cs v a₂ (k .size) d (k .solids v .0 i) m s₂ w

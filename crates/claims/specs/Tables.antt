@@ -15,15 +15,11 @@ use Rattle.table.specs.Examples.{one, abc, one-sound, abc-sound}
 use Rattle.seek.specs.Meaning.{Area}
 use Rattle.ushanderi.specs.Promises.{Fit}
 use Rattle.claims.specs.Tests.{drawsb, drawsb-draws}
-use Rattle.claims.specs.Drawing.{neg, E, -E, A, B, C, D, W, Draws}
+use Rattle.claims.specs.Drawing.{neg, E, -E, A, B, C, D, W, Draws, rec, fullNext}
 
 -- ---- rectangles: left, bottom, right, top, and a solid's label
 
 -- ---- tables
-
--- a record: left, bottom, right, top, tr, rt, bl, lb, kind, label
-abbrev rec : ℤ → ℤ → ℤ → ℤ → ℤ → ℤ → ℤ → ℤ → ℕ → ℕ → List ℤ
-rec l b r t tr rt bl lb kind label = l ∷ b ∷ r ∷ t ∷ tr ∷ rt ∷ bl ∷ lb ∷ pos kind ∷ pos label ∷ []
 
 abbrev free : ℕ → List ℤ
 free n = replicate (WIDTH * n) (pos 0)
@@ -56,10 +52,6 @@ abcd =
 
 unfoldable pub full : List ℤ
 full = rec -E -E E E (neg 1) (neg 1) (neg 1) (neg 1) 2 1 ++ free 19
-
--- the same in the next record
-unfoldable pub fullNext : List ℤ
-fullNext = free 1 ++ rec -E -E E E (neg 1) (neg 1) (neg 1) (neg 1) 2 1 ++ free 18
 
 -- ---- they are sound
 

@@ -15,7 +15,7 @@ use Rattle.ushanderi.specs.declared.answer.Answer.{Answer}
 use Rattle.seek.specs.Meaning.{Area, InArea, RectRight}
 use Rattle.ushanderi.specs.Promises.{CreateDone, areaIn}
 use Rattle.ushanderi.specs.Answers.{DONE, accepted, refused}
-use Rattle.layout.specs.Bytes.{savedAt}
+use Rattle.layout.specs.Bytes.{savedAt, SAVED}
 
 -- some record of t is the solid w
 pub record Shows (t : List ℤ) (w : Tile) : Type 0 where
@@ -113,11 +113,11 @@ pub record LoadAgrees (u v : List ℤ) (a b : Answer) : Type 0 where
 
 -- whole records, each within the limits of RECT and LABEL, no two that share a cell, no more than N
 pub record Clean (bs : List ℕ) (N : ℕ) : Type 0 where
-  pub whole : length bs % 20 ≡ 0
-  pub rect : (n : ℕ) → n < length bs / 20 → RectRight (areaIn bs n)
-  pub label : (n : ℕ) → n < length bs / 20 → ZERO < savedAt bs n .label
-  pub apart : (m n x y : ℕ) → m < n → n < length bs / 20 → InArea (areaIn bs m) x y → InArea (areaIn bs n) x y → ⊥
-  pub few : length bs / 20 ≤ N
+  pub whole : length bs % SAVED ≡ 0
+  pub rect : (n : ℕ) → n < length bs / SAVED → RectRight (areaIn bs n)
+  pub label : (n : ℕ) → n < length bs / SAVED → ZERO < savedAt bs n .label
+  pub apart : (m n x y : ℕ) → m < n → n < length bs / SAVED → InArea (areaIn bs m) x y → InArea (areaIn bs n) x y → ⊥
+  pub few : length bs / SAVED ≤ N
 
 -- the tile v shares a cell with the rectangle
 pub record Shares (v : Tile) (A : Area) : Type 0 where

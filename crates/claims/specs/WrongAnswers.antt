@@ -20,7 +20,7 @@ use Rattle.seek.specs.Meaning.{Area, RectRight}
 use Rattle.seek.specs.Find.{Finds}
 use Rattle.seek.specs.Neighbours.{Touches, Neighbours}
 use Rattle.layout.specs.Order.{savedOf}
-use Rattle.layout.specs.Bytes.{fileBytes}
+use Rattle.layout.specs.Bytes.{fileBytes, SAVED}
 use Rattle.layout.specs.BytesLaws.{file-length}
 use Rattle.layout.specs.OneOrder.{saves-bytes}
 use Rattle.ushanderi.specs.Answers.{DONE, POINT, RECT, LABEL, FULL, answered, accepted, refused}
@@ -48,7 +48,7 @@ pub record Unwritten : Type 0 where
   pub create : (t : List ℤ) (R : Area) (label : ℕ) (t′ : List ℤ) (a : Answer) → CreateSays t R label t′ a → Refuses a → t′ ≡ t
   pub delete : (t : List ℤ) (x y : ℕ) (t′ : List ℤ) (a : Answer) → DeleteSays t x y t′ a → Refuses a → t′ ≡ t
   pub save : (t : List ℤ) (out out′ : List ℕ) (a : Answer) → SaveSays t out out′ a → Refuses a → out′ ≡ out
-  pub load : (t : List ℤ) (bs : List ℕ) (t′ : List ℤ) (a : Answer) → LoadSays t bs t′ a → length bs % 20 ≢ 0 → t′ ≡ t
+  pub load : (t : List ℤ) (bs : List ℕ) (t′ : List ℤ) (a : Answer) → LoadSays t bs t′ a → length bs % SAVED ≢ 0 → t′ ≡ t
 
 fresh-kept : (t t′ : List ℤ) (a : Answer) → FreshSays t t′ a → Refuses a → t′ ≡ t
 fresh-kept t t′ a (FreshSays.size n e w) r = w
@@ -80,7 +80,7 @@ save-kept t out out′ a (SaveSays.unfit u w) r = w
 save-kept t out out′ a (SaveSays.short f ks l o e w) r = w
 save-kept t out out′ a (SaveSays.done f n s o e) r = absurd (r (number-is e))
 
-load-kept : (t : List ℤ) (bs : List ℕ) (t′ : List ℤ) (a : Answer) → LoadSays t bs t′ a → length bs % 20 ≢ 0 → t′ ≡ t
+load-kept : (t : List ℤ) (bs : List ℕ) (t′ : List ℤ) (a : Answer) → LoadSays t bs t′ a → length bs % SAVED ≢ 0 → t′ ≡ t
 load-kept t bs t′ a (LoadSays.size n e w) d = w
 load-kept t bs t′ a (LoadSays.file z n e w) d = w
 load-kept t bs t′ a (LoadSays.stopped (LoadStops.stops z r n number value u h b c e) w) d = absurd (d r)
@@ -98,7 +98,7 @@ unwritten = record {
 }
 
 -- a load refused for one of its records, that keeps the records before it
-pub stopped-fresh : (t : List ℤ) (bs : List ℕ) (t′ : List ℤ) (a : Answer) → SizeRight t → length bs % 20 ≡ 0 → LoadSays t bs t′ a → Refuses a
+pub stopped-fresh : (t : List ℤ) (bs : List ℕ) (t′ : List ℤ) (a : Answer) → SizeRight t → length bs % SAVED ≡ 0 → LoadSays t bs t′ a → Refuses a
     → t′ ≡ freshTable (length t)
 stopped-fresh t bs t′ a z d (LoadSays.size n e w) r = absurd (n z)
 stopped-fresh t bs t′ a z d (LoadSays.file y n e w) r = absurd (n d)
@@ -106,7 +106,7 @@ stopped-fresh t bs t′ a z d (LoadSays.stopped c w) r = w
 stopped-fresh t bs t′ a z d (LoadSays.done y n b e) r = absurd (r (number-is e))
 
 -- or that tells another index than that of the refused record
-pub stopped-at : (t : List ℤ) (bs : List ℕ) (t′ : List ℤ) (number n : ℕ) → (z : SizeRight t) → length bs % 20 ≡ 0 → number ≢ DONE
+pub stopped-at : (t : List ℤ) (bs : List ℕ) (t′ : List ℤ) (number n : ℕ) → (z : SizeRight t) → length bs % SAVED ≡ 0 → number ≢ DONE
     → LoadSays t bs t′ (answered number n) → Stop t z bs n number
 stopped-at t bs t′ number n z d r (LoadSays.size m e w) = absurd (m z)
 stopped-at t bs t′ number n z d r (LoadSays.file y m e w) = absurd (m d)
@@ -147,7 +147,7 @@ save-rest t out out′ n (SaveSays.short f ks l o e w) = ap (drop n) w
 save-rest t out out′ n (SaveSays.done f m s o e) =
     let saved = map (savedOf t) (s .solids) in
     subst (λ n. drop n out′ ≡ drop n out) (sym (same-value e))
-    (ap (drop m) (s .writes) ∙ drop-at (fileBytes saved) (drop m out) m (file-length saved ∙ ap (λ n. 20 * n) (length-map (s .solids) (savedOf t)) ∙ sym (s .number)))
+    (ap (drop m) (s .writes) ∙ drop-at (fileBytes saved) (drop m out) m (file-length saved ∙ ap (λ n. SAVED * n) (length-map (s .solids) (savedOf t)) ∙ sym (s .number)))
 
 pub rest-kept : RestKept
 rest-kept = record { neighbours = neighbours-rest; enumerate = enumerate-rest; save = save-rest }
@@ -236,9 +236,9 @@ module _ (t : List ℤ) (f : Fit t) (i : ℕ) (u : UsedIn t i) where
       )
 
 -- save: another number of bytes
-pub save-counts : (t : List ℤ) (out out′ : List ℕ) (n : ℕ) → SaveSays t out out′ (accepted n) → n ≡ 20 * solidsIn t
+pub save-counts : (t : List ℤ) (out out′ : List ℕ) (n : ℕ) → SaveSays t out out′ (accepted n) → n ≡ SAVED * solidsIn t
 save-counts t out out′ n (SaveSays.unfit u w) = absurd (unfit-not-done t (accepted n) u refl)
-save-counts t out out′ n (SaveSays.short f ks l o e w) = absurd (not-done {value = 20 * length ks} e (λ e. omega arith) refl)
+save-counts t out out′ n (SaveSays.short f ks l o e w) = absurd (not-done {value = SAVED * length ks} e (λ e. omega arith) refl)
 save-counts t out out′ n (SaveSays.done f m s o e) = same-value e ∙ saves-bytes t out out′ m s
 
 -- ---- edits

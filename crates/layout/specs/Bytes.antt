@@ -19,7 +19,11 @@ bytesOf w =
     ∷ complement w / 16777216 % 256
     ∷ []
 
--- a record of 20 bytes: left, bottom, right, top, label
+-- how many bytes a saved record has
+abbrev pub SAVED : ℕ
+SAVED = 20
+
+-- a record's bytes: left, bottom, right, top, label
 unfoldable pub recordBytes : Saved → List ℕ
 recordBytes s = bytesOf (s .left) ++ (bytesOf (s .bottom) ++ (bytesOf (s .right) ++ (bytesOf (s .top) ++ bytesOf (s .label))))
 
@@ -35,11 +39,11 @@ wordAt bs at = complement (getD bs at 0 + 256 * getD bs (at + 1) 0 + 65536 * get
 unfoldable pub savedAt : List ℕ → ℕ → Saved
 savedAt bs n =
     record {
-      left = wordAt bs (20 * n);
-      bottom = wordAt bs (20 * n + 4);
-      right = wordAt bs (20 * n + 8);
-      top = wordAt bs (20 * n + 12);
-      label = wordAt bs (20 * n + 16);
+      left = wordAt bs (SAVED * n);
+      bottom = wordAt bs (SAVED * n + 4);
+      right = wordAt bs (SAVED * n + 8);
+      top = wordAt bs (SAVED * n + 12);
+      label = wordAt bs (SAVED * n + 16);
     }
 
 -- every number is a word's

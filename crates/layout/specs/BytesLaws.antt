@@ -8,7 +8,7 @@ use lib.ListN.{length, getD, length-append}
 use lib.Seq.{getD-append-add}
 use Rattle.layout.specs.declared.bytes.Saved.{Saved}
 use Rattle.layout.specs.Patch.{patch, patch-then}
-use Rattle.layout.specs.Bytes.{complement, bytesOf, recordBytes, fileBytes, wordAt, savedAt, SavedFits, AllFit}
+use Rattle.layout.specs.Bytes.{complement, bytesOf, recordBytes, fileBytes, wordAt, savedAt, SavedFits, AllFit, SAVED}
 
 -- the two directions of two's complement
 pub complement-twice : (w : ℕ) → w < 2 ^ 32 → complement (complement w) ≡ w
@@ -49,18 +49,18 @@ word-shift p q n m e =
     at : (k : ℕ) → getD (p ++ q) (m + k) 0 ≡ getD q (n + k) 0
     at k = let f : m + k ≡ length p + (n + k) = omega arith in ap (λ j. getD (p ++ q) j 0) f ∙ getD-append-add p q (n + k) 0
 
-pub record-length : (s : Saved) → length (recordBytes s) ≡ 20
+pub record-length : (s : Saved) → length (recordBytes s) ≡ SAVED
 unfolding recordBytes bytesOf
 record-length s = refl
 
-pub file-length : (ss : List Saved) → length (fileBytes ss) ≡ 20 * length ss
+pub file-length : (ss : List Saved) → length (fileBytes ss) ≡ SAVED * length ss
 unfolding fileBytes
 file-length [] = refl
 file-length (s ∷ ss) = length-append (recordBytes s) (fileBytes ss) ∙ omega (arith, record-length s, file-length ss)
 
 -- ---- writing a record word by word
 
-pub put-record : (old : List ℕ) (at : ℕ) (s : Saved) (o₁ o₂ o₃ o₄ o₅ : List ℕ) → at + 20 ≤ length old
+pub put-record : (old : List ℕ) (at : ℕ) (s : Saved) (o₁ o₂ o₃ o₄ o₅ : List ℕ) → at + SAVED ≤ length old
     → o₁ ≡ patch old at (bytesOf (s .left))
     → o₂ ≡ patch o₁ (at + 4) (bytesOf (s .bottom))
     → o₃ ≡ patch o₂ (at + 8) (bytesOf (s .right))
@@ -99,14 +99,14 @@ saved-next : (s : Saved) (rest : List ℕ) (n : ℕ) → savedAt (recordBytes s 
 unfolding savedAt
 saved-next s rest n =
     rw (
-      word-shift (recordBytes s) rest (20 * n) (20 * suc n) (omega (arith, record-length s)),
-      word-shift (recordBytes s) rest (20 * n + 4) (20 * suc n + 4) (at 4),
-      word-shift (recordBytes s) rest (20 * n + 8) (20 * suc n + 8) (at 8),
-      word-shift (recordBytes s) rest (20 * n + 12) (20 * suc n + 12) (at 12),
-      word-shift (recordBytes s) rest (20 * n + 16) (20 * suc n + 16) (at 16),
+      word-shift (recordBytes s) rest (SAVED * n) (SAVED * suc n) (omega (arith, record-length s)),
+      word-shift (recordBytes s) rest (SAVED * n + 4) (SAVED * suc n + 4) (at 4),
+      word-shift (recordBytes s) rest (SAVED * n + 8) (SAVED * suc n + 8) (at 8),
+      word-shift (recordBytes s) rest (SAVED * n + 12) (SAVED * suc n + 12) (at 12),
+      word-shift (recordBytes s) rest (SAVED * n + 16) (SAVED * suc n + 16) (at 16),
     )
   where
-    at : (k : ℕ) → 20 * suc n + k ≡ length (recordBytes s) + (20 * n + k)
+    at : (k : ℕ) → SAVED * suc n + k ≡ length (recordBytes s) + (SAVED * n + k)
     at k = omega (arith, record-length s)
 
 pub saved-file : (ss : List Saved) (n : ℕ) (d : Saved) → AllFit ss → n < length ss → savedAt (fileBytes ss) n ≡ getD ss n d

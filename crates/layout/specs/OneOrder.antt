@@ -18,7 +18,7 @@ use Rattle.table.specs.Sound.{SizeRight, solidAt, solidsIn, SolidIn}
 use Rattle.table.specs.Forms.{Forms}
 use Rattle.seek.specs.Meaning.{Lists}
 use Rattle.seek.specs.Lists.{lists-one}
-use Rattle.layout.specs.Bytes.{fileBytes}
+use Rattle.layout.specs.Bytes.{fileBytes, SAVED}
 use Rattle.layout.specs.Order.{Comes, higher, level, savedOf, Saves}
 use Rattle.sorting.specs.Sorting.{sorted, sorted-sorts}
 use Rattle.sorting.specs.Keys.{recordOf}
@@ -63,11 +63,11 @@ order-length t ks l =
 
 -- ---- what save writes
 
-pub saves-bytes : (t : List ℤ) (out out′ : List ℕ) (r : ℕ) → Saves t out out′ r → r ≡ 20 * solidsIn t
-saves-bytes t out out′ r s = s .number ∙ ap (λ n. 20 * n) (order-length t (s .solids) (s .lists))
+pub saves-bytes : (t : List ℤ) (out out′ : List ℕ) (r : ℕ) → Saves t out out′ r → r ≡ SAVED * solidsIn t
+saves-bytes t out out′ r s = s .number ∙ ap (λ n. SAVED * n) (order-length t (s .solids) (s .lists))
 
 pub saves-agree : (t : List ℤ) (out out₁ out₂ : List ℕ) (r₁ r₂ : ℕ) → Saves t out out₁ r₁ → Saves t out out₂ r₂ → (out₁ ≡ out₂) × (r₁ ≡ r₂)
 saves-agree t out out₁ out₂ r₁ r₂ a b =
     let e = one-order t (a .solids) (b .solids) (a .lists) (b .lists) in
-    let r : r₁ ≡ r₂ = a .number ∙ ap (λ ks. 20 * length ks) e ∙ sym (b .number) in
+    let r : r₁ ≡ r₂ = a .number ∙ ap (λ ks. SAVED * length ks) e ∙ sym (b .number) in
     (a .writes ∙ ap₂ (λ ks n. fileBytes (map (savedOf t) ks) ++ drop n out) e r ∙ sym (b .writes), r)

@@ -8,7 +8,7 @@ use Rattle.table.specs.Words.{LEFT, BOTTOM, RIGHT, TOP, LABEL, num}
 use Rattle.table.specs.Sound.{SolidIn}
 use Rattle.seek.specs.Meaning.{Lists}
 use Rattle.layout.specs.declared.bytes.Saved.{Saved}
-use Rattle.layout.specs.Bytes.{fileBytes}
+use Rattle.layout.specs.Bytes.{fileBytes, SAVED}
 
 -- record j comes before record k: highest top first, ties by smaller left
 pub data Comes (t : List ℤ) (j k : ℕ) : Type 0 where
@@ -24,7 +24,7 @@ savedOf t i =
 pub record Saves (t : List ℤ) (out out′ : List ℕ) (bytes : ℕ) : Type 0 where
   pub solids : List ℕ
   pub lists : Lists (SolidIn t) (Comes t) solids
-  pub number : bytes ≡ 20 * length solids
+  pub number : bytes ≡ SAVED * length solids
   pub writes : out′ ≡ fileBytes (map (savedOf t) solids) ++ drop bytes out
 
 -- every label is a word's

@@ -10,7 +10,7 @@ use Rattle.table.specs.Words.{recordsOf}
 use Rattle.table.specs.Sound.{SizeRight, solidsIn}
 use Rattle.table.specs.Forms.{Forms}
 use Rattle.layout.specs.declared.bytes.Saved.{Saved}
-use Rattle.layout.specs.Bytes.{recordBytes, fileBytes, SavedFits}
+use Rattle.layout.specs.Bytes.{recordBytes, fileBytes, SavedFits, SAVED}
 use Rattle.layout.specs.BytesLaws.{file-length, record-length}
 use Rattle.layout.specs.Patch.{patch, patch-none, patch-then, patch-start}
 use Rattle.layout.specs.Order.{savedOf, Saves}
@@ -48,30 +48,30 @@ saved-more : (t : List ℤ) (ks : List ℕ) (k : ℕ) → savedBy t (ks ++ (k �
 saved-more t [] k = refl
 saved-more t (x ∷ ks) k = ap (λ l. savedOf t (recordOf x) ∷ l) (saved-more t ks k)
 
-pub saved-length : (t : List ℤ) (ks : List ℕ) → length (fileBytes (savedBy t ks)) ≡ 20 * length ks
-saved-length t ks = file-length (savedBy t ks) ∙ ap (λ n. 20 * n) (length-map (map recordOf ks) (savedOf t) ∙ length-map ks recordOf)
+pub saved-length : (t : List ℤ) (ks : List ℕ) → length (fileBytes (savedBy t ks)) ≡ SAVED * length ks
+saved-length t ks = file-length (savedBy t ks) ∙ ap (λ n. SAVED * n) (length-map (map recordOf ks) (savedOf t) ∙ length-map ks recordOf)
 
 pub writing-more : (t : List ℤ) (ks out₀ out : List ℕ) (k : ℕ) (s : Saved) (out′ : List ℕ) → Writing t ks out₀ out k → k < length ks
-    → 20 * length ks ≤ length out₀ → s ≡ savedOf t (recordOf (getD ks k 0)) → out′ ≡ patch out (20 * k) (recordBytes s) → length out′ ≡ length out
+    → SAVED * length ks ≤ length out₀ → s ≡ savedOf t (recordOf (getD ks k 0)) → out′ ≡ patch out (SAVED * k) (recordBytes s) → length out′ ≡ length out
     → Writing t ks out₀ out′ (k + 1)
 writing-more t ks out₀ out k s out′ w h l e p m =
     let q : k + 1 ≡ suc k = omega arith in
     let done : List ℕ = fileBytes (savedBy t (take k ks)) in
     let lk : length (take k ks) ≡ k = length-take-le k ks (omega arith) in
-    let ld : length done ≡ 20 * k = saved-length t (take k ks) ∙ ap (λ n. 20 * n) lk in
+    let ld : length done ≡ SAVED * k = saved-length t (take k ks) ∙ ap (λ n. SAVED * n) lk in
     let x : List ℕ = recordBytes (savedOf t (recordOf (getD ks k 0))) in
     let next : fileBytes (savedBy t (take (k + 1) ks)) ≡ done ++ x =
     ap (λ n. fileBytes (savedBy t (take n ks))) q ∙ ap (λ r. fileBytes (savedBy t r)) (take-suc ks k 0 h)
     ∙ ap fileBytes (saved-more t (take k ks) (getD ks k 0)) ∙ file-more (savedBy t (take k ks)) (savedOf t (recordOf (getD ks k 0))) in
-    let z : length (done ++ x) ≡ 20 * (k + 1) = length-append done x ∙ omega (arith, record-length (savedOf t (recordOf (getD ks k 0)))) in
+    let z : length (done ++ x) ≡ SAVED * (k + 1) = length-append done x ∙ omega (arith, record-length (savedOf t (recordOf (getD ks k 0)))) in
     record {
       within = omega arith;
       long = m ∙ w .long;
-      is = p ∙ ap₂ (λ o r. patch o (20 * k) (recordBytes r)) (w .is) e ∙ patch-then out₀ 0 done x (20 * k) (omega arith) (omega arith) ∙ ap (patch out₀ 0) (sym next);
+      is = p ∙ ap₂ (λ o r. patch o (SAVED * k) (recordBytes r)) (w .is) e ∙ patch-then out₀ 0 done x (SAVED * k) (omega arith) (omega arith) ∙ ap (patch out₀ 0) (sym next);
     }
 
 pub written : (t : List ℤ) (ks out₀ out : List ℕ) (k : ℕ) → Writing t ks out₀ out k → length ks ≤ k
-    → out ≡ fileBytes (savedBy t ks) ++ drop (20 * length ks) out₀
+    → out ≡ fileBytes (savedBy t ks) ++ drop (SAVED * length ks) out₀
 written t ks out₀ out k w h =
     let e : k ≡ length ks = omega arith in
     w .is ∙ ap (λ n. patch out₀ 0 (fileBytes (savedBy t (take n ks)))) e ∙ ap (λ l. patch out₀ 0 (fileBytes (savedBy t l))) (take-length ks)
@@ -94,20 +94,20 @@ module _ (t : List ℤ) (f : Forms t) (z : SizeRight t) (keys : List ℕ) (n : �
   are-sorted = subst (λ l. Sorts l ys) (c .are) s
 
   -- the part that is handed on
-  pub back-fits : 20 * length (take n (ys ++ drop n keys)) ≡ 20 * solidsIn t
-  back-fits = ap (λ l. 20 * length l) back ∙ ap (λ m. 20 * m) (back-long ∙ c .number)
+  pub back-fits : SAVED * length (take n (ys ++ drop n keys)) ≡ SAVED * solidsIn t
+  back-fits = ap (λ l. SAVED * length l) back ∙ ap (λ m. SAVED * m) (back-long ∙ c .number)
 
   pub back-below : (k : ℕ) → k < length (take n (ys ++ drop n keys)) → recordOf (getD (take n (ys ++ drop n keys)) k 0) < recordsOf t
   back-below k h =
       subst (λ l. recordOf (getD l k 0) < recordsOf t) (sym back) (record-at t f z ys are-sorted k (subst (λ l. k < length l) back h) .below)
 
-  pub saves : (out out′ : List ℕ) (r : ℕ) → r ≡ 20 * length (take n (ys ++ drop n keys))
-      → out′ ≡ fileBytes (savedBy t (take n (ys ++ drop n keys))) ++ drop (20 * length (take n (ys ++ drop n keys))) out → Saves t out out′ r
+  pub saves : (out out′ : List ℕ) (r : ℕ) → r ≡ SAVED * length (take n (ys ++ drop n keys))
+      → out′ ≡ fileBytes (savedBy t (take n (ys ++ drop n keys))) ++ drop (SAVED * length (take n (ys ++ drop n keys))) out → Saves t out out′ r
   saves out out′ r e w =
-      let q : r ≡ 20 * length ys = e ∙ ap (λ l. 20 * length l) back in
+      let q : r ≡ SAVED * length ys = e ∙ ap (λ l. SAVED * length l) back in
       record {
         solids = map recordOf ys;
         lists = sorted-lists t f z ys are-sorted;
-        number = q ∙ ap (λ m. 20 * m) (sym (length-map ys recordOf));
+        number = q ∙ ap (λ m. SAVED * m) (sym (length-map ys recordOf));
         writes = w ∙ ap₂ (λ l m. fileBytes (savedBy t l) ++ drop m out) back (sym e);
       }

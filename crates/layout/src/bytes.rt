@@ -2,10 +2,13 @@
 ghost use mathlib.Core.Path.{_≡_};
 ghost use Prim.Native.Nat.{_+_, _*_, _%_, _≤_, _<_, _^_};
 ghost use lib.ListN.{length};
-ghost use Rattle.layout.specs.Bytes.{bytesOf, recordBytes, WordAt, SavedIs, SavedFits};
+ghost use Rattle.layout.specs.Bytes.{bytesOf, recordBytes, WordAt, SavedIs, SavedFits, SAVED};
 ghost use Rattle.layout.specs.Patch.{patch};
 use table::numbers::WORDS;
 use table::numbers::ZERO;
+
+// The bytes of a saved record.
+pub const SAVED: usize = 20;
 
 // How many numbers a byte has.
 const BYTE: u64 = 256;
@@ -57,10 +60,10 @@ pub fn put_word(out: &mut [u8], at: usize, w: u64)
 
 // Record n of a file.
 pub fn read_saved(bytes: &[u8], n: usize) -> Saved
-    requires { ⌜ 20 * n + 20 ≤ length (now bytes) ⌝ }
+    requires { ⌜ SAVED * n + SAVED ≤ length (now bytes) ⌝ }
     ensures { λ r. ⌜ SavedIs (now (bytes .entry)) n r ⌝ }
 {
-    let at = 20 * n;
+    let at = SAVED * n;
     Saved {
         left: word_at(bytes, at),
         bottom: word_at(bytes, at + 4),
@@ -71,11 +74,11 @@ pub fn read_saved(bytes: &[u8], n: usize) -> Saved
 }
 
 pub fn put_saved(out: &mut [u8], n: usize, s: Saved)
-    requires { ⌜ 20 * n + 20 ≤ length (now out) ⌝ }
+    requires { ⌜ SAVED * n + SAVED ≤ length (now out) ⌝ }
     requires { ⌜ SavedFits s ⌝ }
-    ensures { λ _. ⌜ now (out .exit) ≡ patch (now (out .entry)) (20 * n) (recordBytes s) ⌝ }
+    ensures { λ _. ⌜ now (out .exit) ≡ patch (now (out .entry)) (SAVED * n) (recordBytes s) ⌝ }
 {
-    let at = 20 * n;
+    let at = SAVED * n;
     put_word(out, at, s.left);
     put_word(out, at + 4, s.bottom);
     put_word(out, at + 8, s.right);

@@ -2,6 +2,7 @@
 mod bytes;
 mod saving;
 
+pub use bytes::SAVED;
 pub use bytes::Saved;
 pub use bytes::put_saved;
 pub use bytes::put_word;

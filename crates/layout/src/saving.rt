@@ -6,11 +6,12 @@ ghost use lib.ListN.{length, getD, drop};
 ghost use Rattle.table.specs.Words.{recordsOf};
 ghost use Rattle.table.specs.Sound.{SizeRight, solidsIn, SolidIn};
 ghost use Rattle.table.specs.Forms.{Forms};
-ghost use Rattle.layout.specs.Bytes.{fileBytes};
+ghost use Rattle.layout.specs.Bytes.{fileBytes, SAVED};
 ghost use Rattle.layout.specs.Order.{Saves};
 ghost use Rattle.sorting.specs.Keys.{recordOf};
 ghost use Rattle.layout.specs.Keys.{key, CollectsKeys};
 ghost use Rattle.layout.specs.Saving.{SavedFrom, savedBy};
+use crate::bytes::SAVED;
 use crate::bytes::Saved;
 use crate::bytes::put_saved;
 use sorting::sort;
@@ -81,10 +82,10 @@ fn saved_of(t: &[i32], i: usize) -> Saved
 
 // The records that the keys name, one after another.
 fn write_all(t: &[i32], keys: &[u64], out: &mut [u8]) -> usize
-    requires { ⌜ 20 * length (now keys) ≤ length (now out) ⌝ }
+    requires { ⌜ SAVED * length (now keys) ≤ length (now out) ⌝ }
     requires { ⌜ ((n : ℕ) → n < length (now keys) → recordOf (getD (now keys) n 0) < recordsOf (now t)) ⌝ }
-    ensures { λ r. ⌜ r ≡ 20 * length (now (keys .entry)) ⌝ }
-    ensures { λ _. ⌜ now (out .exit) ≡ fileBytes (savedBy (now (t .entry)) (now (keys .entry))) ++ drop (20 * length (now (keys .entry))) (now (out .entry)) ⌝ }
+    ensures { λ r. ⌜ r ≡ SAVED * length (now (keys .entry)) ⌝ }
+    ensures { λ _. ⌜ now (out .exit) ≡ fileBytes (savedBy (now (t .entry)) (now (keys .entry))) ++ drop (SAVED * length (now (keys .entry))) (now (out .entry)) ⌝ }
 {
     let mut k: usize = 0;
     while k < keys.len() {
@@ -92,7 +93,7 @@ fn write_all(t: &[i32], keys: &[u64], out: &mut [u8]) -> usize
         put_saved(out, k, saved_of(t, i));
         k += 1;
     }
-    20 * k
+    SAVED * k
 }
 
 // The solids of a table as a saved layout, at the start of the lent bytes, and how many bytes that takes; with room for keys.
@@ -101,7 +102,7 @@ fn save_by(t: &[i32], keys: &mut [u64], spare: &mut [u64], out: &mut [u8]) -> us
     requires { ⌜ SizeRight (now t) ⌝ }
     requires { ⌜ solidsIn (now t) ≤ length (now keys) ⌝ }
     requires { ⌜ solidsIn (now t) ≤ length (now spare) ⌝ }
-    requires { ⌜ 20 * solidsIn (now t) ≤ length (now out) ⌝ }
+    requires { ⌜ SAVED * solidsIn (now t) ≤ length (now out) ⌝ }
     ensures { λ r. ⌜ Saves (now (t .entry)) (now (out .entry)) (now (out .exit)) r ⌝ }
 {
     let n = collect(t, keys);
@@ -113,7 +114,7 @@ fn save_few(t: &[i32], out: &mut [u8]) -> usize
     requires { ⌜ Forms (now t) ⌝ }
     requires { ⌜ SizeRight (now t) ⌝ }
     requires { ⌜ solidsIn (now t) ≤ 128 ⌝ }
-    requires { ⌜ 20 * solidsIn (now t) ≤ length (now out) ⌝ }
+    requires { ⌜ SAVED * solidsIn (now t) ≤ length (now out) ⌝ }
     ensures { λ r. ⌜ Saves (now (t .entry)) (now (out .entry)) (now (out .exit)) r ⌝ }
 {
     let mut keys = [0u64; FEW];
@@ -125,7 +126,7 @@ fn save_few(t: &[i32], out: &mut [u8]) -> usize
 pub fn save(t: &[i32], out: &mut [u8]) -> usize
     requires { ⌜ Forms (now t) ⌝ }
     requires { ⌜ SizeRight (now t) ⌝ }
-    requires { ⌜ 20 * solidsIn (now t) ≤ length (now out) ⌝ }
+    requires { ⌜ SAVED * solidsIn (now t) ≤ length (now out) ⌝ }
     ensures { λ r. ⌜ Saves (now (t .entry)) (now (out .entry)) (now (out .exit)) r ⌝ }
 {
     if table::capacity(t) <= FEW {

@@ -8,6 +8,7 @@ use Rattle.table.specs.Words.{WIDTH}
 use Rattle.table.specs.Sound.{capacity}
 use Rattle.lister.specs.declared.input.Input.{Input}
 use Rattle.lister.specs.declared.input.Input.the-variants.{Layout, Failed}
+use Rattle.layout.specs.Bytes.{SAVED}
 
 -- the most bytes that are read
 abbrev pub BYTES : ℕ
@@ -33,7 +34,7 @@ pub takes-400 : capacity RECORDS ≡ 400
 takes-400 = refl
 
 -- one saved solid more than the table takes is read, so that a layout of too many is refused and not cut
-pub reads-401 : BYTES ≡ 20 * (capacity RECORDS + 1)
+pub reads-401 : BYTES ≡ SAVED * (capacity RECORDS + 1)
 reads-401 = refl
 
 -- what is read of the input lies at the start of the lent bytes

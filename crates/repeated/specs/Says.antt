@@ -15,6 +15,7 @@ use Rattle.seek.specs.Listing
 use Rattle.seek.specs.Listing.{Counts}
 use Rattle.seek.specs.Enumerate.{CountsArea, WritesArea}
 use Rattle.layout.specs.Order.{Saves}
+use Rattle.layout.specs.Bytes.{SAVED}
 use Rattle.repeated.specs.Entry.{Fit, Unfit}
 use Rattle.repeated.specs.Edit.{CanEdit, MayEdit, Edited}
 use Rattle.repeated.specs.declared.answer.Answer.{Answer}
@@ -71,7 +72,7 @@ pub data EnumerateSays (t : List ℤ) (A : Area) (old new : List ℤ) (a : Answe
 
 pub data SaveSays (t : List ℤ) (old new : List ℕ) (a : Answer) : Type 0 where
   unfit : Refuses t a → new ≡ old → SaveSays t old new a
-  short : Fit t → length old < 20 * solidsIn t → a ≡ answered 10 0 → new ≡ old → SaveSays t old new a
+  short : Fit t → length old < SAVED * solidsIn t → a ≡ answered 10 0 → new ≡ old → SaveSays t old new a
   done : Fit t → (n : ℕ) → Saves t old new n → a ≡ answered 0 n → SaveSays t old new a
 
 -- a solid is created and deleted: the table is sound after that, and has the solids that it had

@@ -3,6 +3,7 @@ ghost use Prim.Native.Nat.{_*_, _≤_};
 ghost use lib.ListN.{length};
 ghost use Rattle.table.specs.Sound.{solidsIn};
 ghost use Rattle.layout.specs.Order.{Saves};
+ghost use Rattle.layout.specs.Bytes.{SAVED};
 ghost use Rattle.repeated.specs.Entry.{Fit};
 ghost use Rattle.repeated.specs.Says.{SaveSays};
 use crate::answer::Answer;
@@ -10,10 +11,11 @@ use crate::answer::DONE;
 use crate::answer::SHORT;
 use crate::entry::Entry;
 use crate::entry::enter;
+use layout::SAVED;
 
 fn save_often(t: &[i32], bytes: &mut [u8], times: u32) -> usize
     requires { ⌜ Fit (now t) ⌝ }
-    requires { ⌜ 20 * solidsIn (now t) ≤ length (now bytes) ⌝ }
+    requires { ⌜ SAVED * solidsIn (now t) ≤ length (now bytes) ⌝ }
     ensures { λ r. ⌜ Saves (now (t .entry)) (now (bytes .entry)) (now (bytes .exit)) r ⌝ }
 {
     let mut k = layout::save(t, bytes);
@@ -33,7 +35,7 @@ pub extern "C" fn rep_save(t: &[i32], bytes: &mut [u8], times: u32) -> Answer
     if number != DONE {
         return Answer { number, value: 0 };
     }
-    if bytes.len() / 20 < solids {
+    if bytes.len() / SAVED < solids {
         return Answer {
             number: SHORT,
             value: 0,

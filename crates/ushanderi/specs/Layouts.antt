@@ -12,7 +12,7 @@ use Rattle.table.specs.Words.{WIDTH, LEAST, MOST}
 use Rattle.table.specs.Sound.{SizeRight, UsedIn, Sound, solidsIn}
 use Rattle.table.specs.Fresh.{freshTable}
 use Rattle.table.specs.FreshSound.{fresh-length, fresh-one, fresh-sound, fresh-no-solid}
-use Rattle.layout.specs.Bytes.{savedAt}
+use Rattle.layout.specs.Bytes.{savedAt, SAVED}
 use Rattle.layout.specs.declared.bytes.Saved.{Saved}
 use Rattle.layout.specs.Order.{Saves}
 use Rattle.layout.specs.OneOrder.{some-order, order-length, saves-bytes}
@@ -26,16 +26,16 @@ use Rattle.ushanderi.specs.declared.editing.Created.{Created}
 -- ---- save
 
 -- a number of bytes is a word's
-pub save-low : (t : List ℤ) → Fit t → 20 * solidsIn t < 2 ^ 31
+pub save-low : (t : List ℤ) → Fit t → SAVED * solidsIn t < 2 ^ 31
 save-low t f = omega (arith, fit-forms t f .few, f .size .most)
 
-pub save-short : (t : List ℤ) (out : List ℕ) (n : ℕ) → Fit t → n ≡ 20 * solidsIn t → length out < n → SaveSays t out out (answered SHORT n)
+pub save-short : (t : List ℤ) (out : List ℕ) (n : ℕ) → Fit t → n ≡ SAVED * solidsIn t → length out < n → SaveSays t out out (answered SHORT n)
 save-short t out n f e h =
     let (ks, l) = some-order t (fit-forms t f) (f .size) in
-    let q : n ≡ 20 * length ks = e ∙ ap (λ m. 20 * m) (sym (order-length t ks l)) in
+    let q : n ≡ SAVED * length ks = e ∙ ap (λ m. SAVED * m) (sym (order-length t ks l)) in
     SaveSays.short f ks l (omega arith) (ap (answered SHORT) q) refl
 
-pub save-done : (t : List ℤ) (out out′ : List ℕ) (n : ℕ) → Fit t → 20 * solidsIn t ≤ length out → Saves t out out′ n → SaveSays t out out′ (accepted n)
+pub save-done : (t : List ℤ) (out out′ : List ℕ) (n : ℕ) → Fit t → SAVED * solidsIn t ≤ length out → Saves t out out′ n → SaveSays t out out′ (accepted n)
 save-done t out out′ n f h s = SaveSays.done f n s (omega (arith, saves-bytes t out out′ n s)) refl
 
 -- ---- load: the loop has made the creates of n records, on the fresh plane t₀, and has come to t
@@ -82,11 +82,11 @@ module _ (t₀ : List ℤ) (bs : List ℕ) (t : List ℤ) (from n : ℕ) (l : Lo
   pub loading-low : n < 2 ^ 31
   loading-low = omega (arith, l .solids, save-low t (l .fit))
 
-  pub load-done : (u : List ℤ) → SizeRight u → length bs % 20 ≡ 0 → length t₀ ≡ length u → n ≡ length bs / 20 → LoadSays u bs t (accepted n)
+  pub load-done : (u : List ℤ) → SizeRight u → length bs % SAVED ≡ 0 → length t₀ ≡ length u → n ≡ length bs / SAVED → LoadSays u bs t (accepted n)
   load-done u z w e q =
-      LoadSays.done z w (subst (λ m. Built m bs (length bs / 20) t) e (subst (λ m. Built (length t₀) bs m t) q (l .built))) (ap accepted q)
+      LoadSays.done z w (subst (λ m. Built m bs (length bs / SAVED) t) e (subst (λ m. Built (length t₀) bs m t) q (l .built))) (ap accepted q)
 
-  pub load-stopped : (u t′ : List ℤ) (a b : Answer) → SizeRight u → length bs % 20 ≡ 0 → length t₀ ≡ length u → n < length bs / 20
+  pub load-stopped : (u t′ : List ℤ) (a b : Answer) → SizeRight u → length bs % SAVED ≡ 0 → length t₀ ≡ length u → n < length bs / SAVED
       → CreateRefuses t (areaIn bs n) (savedAt bs n .label) a → t′ ≡ freshTable (length t)
       → b ≡ record { number = toZ w32 (ofZ w32 (a .number)); value = pos n } → LoadSays u bs t′ b
   load-stopped u t′ a b z w e h c q r =
@@ -138,4 +138,4 @@ load-ends t bs t′ a (LoadSays.stopped (LoadStops.stops z w n number value u h 
     let f = refusal u (areaIn bs n) (savedAt bs n .label) (answered number value) c in
     let s : number ≡ f .number = let p : pos number ≡ pos (f .number) = ap (λ a. a .number) (f .is) in cc in
     not number n e (omega (arith, f .some)) (omega (arith, f .low)) (omega (arith, built-solids t bs z b, save-low u (built-fit t bs z b)))
-load-ends t bs t′ a (LoadSays.done z w b e) = well (length bs / 20) e (built-fit t bs z b) (built-length t bs z b)
+load-ends t bs t′ a (LoadSays.done z w b e) = well (length bs / SAVED) e (built-fit t bs z b) (built-length t bs z b)

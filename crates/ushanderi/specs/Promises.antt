@@ -14,7 +14,7 @@ use Rattle.table.specs.View.{Places, Slice, IsPart}
 use Rattle.seek.specs.Meaning.{Area, RectRight, FreeArea, First, Lists, Directed}
 use Rattle.seek.specs.Find.{Finds}
 use Rattle.seek.specs.Neighbours.{IsSide, sideOf, Neighbours}
-use Rattle.layout.specs.Bytes.{savedAt}
+use Rattle.layout.specs.Bytes.{savedAt, SAVED}
 use Rattle.layout.specs.Order.{Comes, Saves}
 use Rattle.ushanderi.specs.Answers.{SIZE, UNSOUND, POINT, RECT, LABEL, OCCUPIED, FULL, SPACE, SIDE, SHORT, FILE, ROOM, answered, accepted, refused, nothing}
 use Rattle.ushanderi.specs.declared.answer.Answer.{Answer}
@@ -133,7 +133,7 @@ pub data DeleteSays (t : List ℤ) (x y : ℕ) (t′ : List ℤ) (a : Answer) : 
 -- Save: 1, 2, 10. Value: bytes written.
 pub data SaveSays (t : List ℤ) (out out′ : List ℕ) (a : Answer) : Type 0 where
   unfit : Unfit t a → out′ ≡ out → SaveSays t out out′ a
-  short : Fit t → (ks : List ℕ) → Lists (SolidIn t) (Comes t) ks → length out < 20 * length ks → a ≡ answered SHORT (20 * length ks) → out′ ≡ out
+  short : Fit t → (ks : List ℕ) → Lists (SolidIn t) (Comes t) ks → length out < SAVED * length ks → a ≡ answered SHORT (SAVED * length ks) → out′ ≡ out
       → SaveSays t out out′ a
   done : Fit t → (bytes : ℕ) → Saves t out out′ bytes → bytes ≤ length out → a ≡ accepted bytes → SaveSays t out out′ a
 
@@ -148,12 +148,12 @@ pub data Built (words : ℕ) (bs : List ℕ) : ℕ → List ℤ → Type 0 where
 
 -- a load that comes to a refused create: the answer is that refusal's number, the value its index
 pub data LoadStops (t : List ℤ) (bs : List ℕ) (a : Answer) : Type 0 where
-  stops : SizeRight t → length bs % 20 ≡ 0 → (n number value : ℕ) (u : List ℤ) → n < length bs / 20 → Built (length t) bs n u
+  stops : SizeRight t → length bs % SAVED ≡ 0 → (n number value : ℕ) (u : List ℤ) → n < length bs / SAVED → Built (length t) bs n u
       → CreateRefuses u (areaIn bs n) (savedAt bs n .label) (answered number value) → a ≡ answered number n → LoadStops t bs a
 
 -- Load: 1, 11, then fresh, then one create for each record in file order; at the first refused one a fresh plane. Value: the number of records.
 pub data LoadSays (t : List ℤ) (bs : List ℕ) (t′ : List ℤ) (a : Answer) : Type 0 where
   size : (SizeRight t → ⊥) → a ≡ refused SIZE → t′ ≡ t → LoadSays t bs t′ a
-  file : SizeRight t → length bs % 20 ≢ 0 → a ≡ refused FILE → t′ ≡ t → LoadSays t bs t′ a
+  file : SizeRight t → length bs % SAVED ≢ 0 → a ≡ refused FILE → t′ ≡ t → LoadSays t bs t′ a
   stopped : LoadStops t bs a → t′ ≡ freshTable (length t) → LoadSays t bs t′ a
-  done : SizeRight t → length bs % 20 ≡ 0 → Built (length t) bs (length bs / 20) t′ → a ≡ accepted (length bs / 20) → LoadSays t bs t′ a
+  done : SizeRight t → length bs % SAVED ≡ 0 → Built (length t) bs (length bs / SAVED) t′ → a ≡ accepted (length bs / SAVED) → LoadSays t bs t′ a

@@ -3,7 +3,7 @@ ghost use mathlib.Core.Path.{_≡_};
 ghost use Prim.Native.Nat.{_+_, _*_, _%_, _≤_};
 ghost use lib.ListN.{length};
 ghost use Rattle.table.specs.Sound.{SizeRight, UsedIn, solidsIn};
-ghost use Rattle.layout.specs.Bytes.{savedAt};
+ghost use Rattle.layout.specs.Bytes.{savedAt, SAVED};
 ghost use Rattle.ushanderi.specs.Promises.{Fit, SaveSays, areaIn, LoadSays};
 ghost use Rattle.ushanderi.specs.Editing.{CreateEnds};
 use crate::answer::Answer;
@@ -17,10 +17,8 @@ use crate::editing::create_one;
 use crate::entry::Entry;
 use crate::entry::admit;
 use crate::entry::entry_answer;
+use layout::SAVED;
 use seek::Area;
-
-// The bytes of a saved record.
-const SAVED: usize = 20;
 
 // 10, then the save: the table is sound and has so many solids.
 fn save_in(t: &[i32], out: &mut [u8], solids: usize) -> Answer
@@ -51,7 +49,7 @@ fn load_one(t: &mut [i32], bytes: &[u8], from: usize, n: usize) -> Created
     requires { ⌜ Fit (now t) ⌝ }
     requires { ⌜ UsedIn (now t) from ⌝ }
     requires { ⌜ n ≡ solidsIn (now t) ⌝ }
-    requires { ⌜ 20 * n + 20 ≤ length (now bytes) ⌝ }
+    requires { ⌜ SAVED * n + SAVED ≤ length (now bytes) ⌝ }
     ensures { λ r. ⌜ CreateEnds (now (t .entry)) (areaIn (now (bytes .entry)) n) (savedAt (now (bytes .entry)) n .label) (now (t .exit)) r ⌝ }
 {
     let s = layout::read_saved(bytes, n);
@@ -67,7 +65,7 @@ fn load_one(t: &mut [i32], bytes: &[u8], from: usize, n: usize) -> Created
 // The creates for all records of a file, on a fresh plane; where one is refused the plane is fresh again.
 fn load_all(t: &mut [i32], bytes: &[u8]) -> Answer
     requires { ⌜ SizeRight (now t) ⌝ }
-    requires { ⌜ length (now bytes) % 20 ≡ 0 ⌝ }
+    requires { ⌜ length (now bytes) % SAVED ≡ 0 ⌝ }
     ensures { λ r. ⌜ LoadSays (now (t .entry)) (now (bytes .entry)) (now (t .exit)) r ⌝ }
 {
     table::fresh(t);

@@ -6,6 +6,7 @@ use Rattle.layout.specs.BytesLaws.{put-record}
 use borrow.Author.Needs.{needs}
 use Rattle.layout.proofs.bytes.put_saved.Statement.{statement}
 use Rattle.layout.proofs.bytes.put_saved.Tie as tie
+use Rattle.layout.specs.Bytes.{SAVED}
 
 mul-at : tie.Need-mul-at
 mul-at c = search needs
@@ -43,7 +44,7 @@ same-length c = search needs
 returns : tie.Need-returns
 returns c =
     let a = c .before .before .before .before .before .before .before .before .before .before .before .before .before .before .before .before .before .before .before .before .before .args in
-    put-record (now (a .out)) (20 * a .n) (a .s) _ _ _ _ _ (omega arith)
+    put-record (now (a .out)) (SAVED * a .n) (a .s) _ _ _ _ _ (omega arith)
     (c .before .before .before .before .before .before .before .before .before .before .before .before .before .before .before .before .before .before .put-word .ensures)
     (c .before .before .before .before .before .before .before .before .before .before .before .before .before .before .put-word2 .ensures)
     (c .before .before .before .before .before .before .before .before .before .before .put-word3 .ensures)

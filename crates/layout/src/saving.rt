@@ -30,7 +30,7 @@ const WIDE: u64 = 33554432;
 
 const RECORDS: u64 = 4096;
 
-// Solids of a small table, and of the largest.
+// How many solids a small table takes, and the largest.
 const FEW: usize = 128;
 
 const MOST: usize = 1000;
@@ -96,7 +96,7 @@ fn write_all(t: &[i32], keys: &[u64], out: &mut [u8]) -> usize
     SAVED * k
 }
 
-// The solids of a table as a saved layout, at the start of the lent bytes, and how many bytes that takes; with room for keys.
+// What save does, given room for the keys and as much to spare.
 fn save_by(t: &[i32], keys: &mut [u64], spare: &mut [u64], out: &mut [u8]) -> usize
     requires { ⌜ Forms (now t) ⌝ }
     requires { ⌜ SizeRight (now t) ⌝ }
@@ -122,7 +122,8 @@ fn save_few(t: &[i32], out: &mut [u8]) -> usize
     save_by(t, &mut keys, &mut spare, out)
 }
 
-// A small table has less room for keys, which would take longer to clear than its solids to save.
+// The solids of a table as a saved layout, at the start of the lent bytes, and how many bytes that takes.
+// Room for the keys of the largest table takes longer to clear than a small table to save.
 pub fn save(t: &[i32], out: &mut [u8]) -> usize
     requires { ⌜ Forms (now t) ⌝ }
     requires { ⌜ SizeRight (now t) ⌝ }

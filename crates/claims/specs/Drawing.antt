@@ -1,7 +1,7 @@
 -- The drawn rectangles of 01's examples, and what it is that a table draws certain solids. Assumes nothing.
 use Rattle.seek.specs.Meaning.{Area}
 use Rattle.geometry.specs.Picture.{SPACE, Tile, solidPaint}
-use Prim.Native.Nat.{_-_, ℕ}
+use Prim.Native.Nat.{_-_, ℕ, _*_}
 use lib.IntN.{negsuc, pos, ℤ}
 use Rattle.ruler.specs.Ruler.{ruler}
 use Rattle.claims.specs.History.{Among}
@@ -9,7 +9,8 @@ use Rattle.ushanderi.specs.Promises.{Fit}
 use mathlib.Core.List.{List, _++_, _∷_}
 use Rattle.claims.specs.Terms.{Shows}
 use Rattle.table.specs.Sound.{SolidIn}
-use Rattle.table.specs.Words.{tileOf}
+use Rattle.table.specs.Words.{tileOf, WIDTH}
+use lib.ListN.{replicate}
 
 abbrev pub solid : ℤ → ℤ → ℤ → ℤ → ℕ → Tile
 solid l b r t label = record { left = ruler l; bottom = ruler b; right = ruler r; top = ruler t; paint = solidPaint (ruler (pos label)) }
@@ -62,3 +63,9 @@ rec l b r t tr rt bl lb kind label = l ∷ b ∷ r ∷ t ∷ tr ∷ rt ∷ bl �
 -- the same in the next record
 unfoldable pub fullNext : List ℤ
 fullNext = free 1 ++ rec -E -E E E (neg 1) (neg 1) (neg 1) (neg 1) 2 1 ++ free 18
+
+abbrev pub free : ℕ → List ℤ
+free n = replicate (WIDTH * n) (pos 0)
+
+unfoldable pub full : List ℤ
+full = rec -E -E E E (neg 1) (neg 1) (neg 1) (neg 1) 2 1 ++ free 19

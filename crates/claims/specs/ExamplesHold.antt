@@ -32,12 +32,12 @@ use Rattle.claims.specs.Pictures.{same-spaces, renamed, renamed-twin}
 use Rattle.claims.specs.Renamed.{tiles-renamed, neighbours-renamed, directed-renamed}
 use Rattle.claims.specs.Draws.{every-one, draws-same, draws-free, draws-more, draws-less, fresh-draws}
 use Rattle.claims.specs.Tests.{findsb, findsb-finds, listsb, rootb, rootsb-lists, hangsb, hangsb-lists, onTopb, onTopb-neighbours}
-use Rattle.claims.specs.Tables.{ab, abcd, full, one-draws, ab-draws, abc-draws, abcd-draws, full-draws, ab-spaces, ab-solids, abcd-spaces, full-spaces}
+use Rattle.claims.specs.Tables.{ab, abcd, one-draws, ab-draws, abc-draws, abcd-draws, full-draws, ab-spaces, ab-solids, abcd-spaces, full-spaces}
 use Rattle.claims.specs.Allowed.{find-is, find-point, search-free, search-met, neighbours-are, enumerated-are, creates, is-full, is-occupied, deletes, is-space}
 use Rattle.claims.specs.Examples
 use Rattle.claims.specs.Examples.{Answers, Lends, Example, holds, AllHold, end, _and_, ABC, bottomStrip, leftOfA, gap, rightOfB, strip10to15, leftOfC, rightOfC, topStrip, examples}
 use Rattle.claims.specs.Terms.{Shows, SamePicture, Created}
-use Rattle.claims.specs.Drawing.{solid, space, area, neg, E, -E, A, B, C, D, W, Draws, areaOf}
+use Rattle.claims.specs.Drawing.{solid, space, area, neg, E, -E, A, B, C, D, W, Draws, areaOf, full}
 
 -- an entry of a list stands in it
 times-at : (ks : List ℕ) (n : ℕ) → n < length ks → 1 ≤ times (getD ks n 0) ks

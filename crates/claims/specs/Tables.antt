@@ -15,14 +15,11 @@ use Rattle.table.specs.Examples.{one, abc, one-sound, abc-sound}
 use Rattle.seek.specs.Meaning.{Area}
 use Rattle.ushanderi.specs.Promises.{Fit}
 use Rattle.claims.specs.Tests.{drawsb, drawsb-draws}
-use Rattle.claims.specs.Drawing.{neg, E, -E, A, B, C, D, W, Draws, rec, fullNext}
+use Rattle.claims.specs.Drawing.{neg, E, -E, A, B, C, D, W, Draws, rec, fullNext, free, full}
 
 -- ---- rectangles: left, bottom, right, top, and a solid's label
 
 -- ---- tables
-
-abbrev free : ℕ → List ℤ
-free n = replicate (WIDTH * n) (pos 0)
 
 unfoldable pub ab : List ℤ
 ab =
@@ -49,9 +46,6 @@ abcd =
     ++ rec (pos 25) (pos 15) E (pos 20) (neg 1) (pos 10) (pos 2) (pos 7) 1 0
     ++ rec -E (pos 20) E E (neg 1) (neg 1) (neg 1) (pos 8) 1 0
     ++ free 21
-
-unfoldable pub full : List ℤ
-full = rec -E -E E E (neg 1) (neg 1) (neg 1) (neg 1) 2 1 ++ free 19
 
 -- ---- they are sound
 

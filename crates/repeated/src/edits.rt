@@ -66,7 +66,7 @@ fn edit_from(
 {
     let from = seek::start(t, hint);
     let ink = Paint { kind: SOLID, label };
-    let k = create(t, from, left, bottom, right, top, ink);
+    let k = create(t, from, from, left, bottom, right, top, ink);
     delete(t, k);
     k
 }

@@ -26,7 +26,7 @@ pub(crate) fn search_from(
 {
     let from = seek::start(t, hint);
     match seek::search(t, from, left, bottom, right, top) {
-        Seen::Nothing => table::records(t),
+        Seen::Nothing(_) => table::records(t),
         Seen::Solid(i, _, _) => i,
     }
 }

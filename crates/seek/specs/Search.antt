@@ -23,7 +23,7 @@ use Rattle.seek.specs.Meaning.{Area, InArea, Before, higher, same-row, F
 -- ---- the answer
 
 pub data Searches (t : List ℤ) (A : Area) : Seen → Type 0 where
-  nothing : FreeArea t A → Searches t A Nothing
+  nothing : {k : ℕ} → FreeArea t A → UsedIn t k → Searches t A (Nothing k)
   solid : {i x y : ℕ} → First t A x y i → Searches t A (Solid i x y)
 
 -- ---- one row
@@ -160,12 +160,12 @@ pub free-no-first : (t : List ℤ) (A : Area) (x y i : ℕ) → FreeArea t A →
 free-no-first t A x y i h f = h x y (f .inside) i (f .solid) (f .has)
 
 -- what area search saw
-pub searches-free : (t : List ℤ) (A : Area) (s : Seen) → Searches t A s → s ≡ Nothing → FreeArea t A
-searches-free t A s (nothing h) e = h
-searches-free t A s (solid h) e = absurd (let z : _≡_ {A = ℕ} 0 1 = cc in omega arith)
+pub searches-free : (t : List ℤ) (A : Area) (s : Seen) (k : ℕ) → Searches t A s → s ≡ Nothing k → FreeArea t A × UsedIn t k
+searches-free t A s k (nothing {k = n} h u) e = let d : n ≡ k = cc in (h, subst (UsedIn t) d u)
+searches-free t A s k (solid h) e = absurd (let z : _≡_ {A = ℕ} 0 1 = cc in omega arith)
 
 pub searches-met : (t : List ℤ) (A : Area) (s : Seen) (i x y : ℕ) → Searches t A s → s ≡ Solid i x y → First t A x y i
-searches-met t A s i x y (nothing h) e = absurd (let z : _≡_ {A = ℕ} 0 1 = cc in omega arith)
+searches-met t A s i x y (nothing h u) e = absurd (let z : _≡_ {A = ℕ} 0 1 = cc in omega arith)
 searches-met t A s i x y (solid {i = j} {x = u} {y = v} h) e =
     let a : j ≡ i = cc in
     let b : u ≡ x = cc in

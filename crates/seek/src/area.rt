@@ -11,9 +11,9 @@ use table::numbers::KIND;
 use table::numbers::RIGHT;
 use table::numbers::SOLID;
 
-// Nothing, or a solid with its record and the area's first occupied cell.
+// Nothing, with the tile that the search met last, or a solid with its record and the area's first occupied cell.
 pub enum Seen {
-    Nothing,
+    Nothing(usize),
     Solid(usize, u64, u64),
 }
 
@@ -63,5 +63,5 @@ pub fn search(t: &[i32], from: usize, left: u64, bottom: u64, right: u64, top: u
             Row::Stopped(i, x) => return Seen::Solid(i, x, y - 1),
         }
     }
-    Seen::Nothing
+    Seen::Nothing(k)
 }

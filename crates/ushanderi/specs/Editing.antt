@@ -41,7 +41,7 @@ use Rattle.ushanderi.specs.declared.editing.MayDelete.the-variants as Ma
 
 abbrev pub CreateDecides : List ℤ → Area → ℕ → MayCreate → Type 0
 CreateDecides t A label (MayCreates.Refused a) = CreateRefuses t A label a
-CreateDecides t A label MayCreates.Go = CreateAllows t A label
+CreateDecides t A label (MayCreates.Go k) = UsedIn t k × CreateAllows t A label
 
 abbrev pub CreateEnds : List ℤ → Area → ℕ → List ℤ → Created → Type 0
 CreateEnds t A label t′ (Createds.At k) = CreateDone t A label t′ k

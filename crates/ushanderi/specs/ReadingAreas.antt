@@ -37,18 +37,18 @@ area-bits left bottom right top f g h k =
 
 -- the number and the value of each case
 abbrev pub seenAnswer : Seen → Answer
-seenAnswer Seens.Nothing = Answers.nothing
+seenAnswer (Seens.Nothing k) = Answers.nothing
 seenAnswer (Seens.Solid i x y) = accepted i
 
 pub searches-says : (t : List ℤ) (A : Area) (s : Seen) → Fit t → RectRight A → Searches t A s → SearchSays t A (seenAnswer s)
-searches-says t A s f r (nothing h) = SearchSays.free f r h refl
+searches-says t A s f r (nothing h u) = SearchSays.free f r h refl
 searches-says t A s f r (solid {i} {x} {y} h) = SearchSays.met f r x y i h refl
 
 pub search-same : {t : List ℤ} {A B : Area} {a : Answer} → A ≡ B → SearchSays t A a → SearchSays t B a
 search-same {t} {A} {B} {a} e s = subst (λ A. SearchSays t A a) e s
 
 pub searches-low : (t : List ℤ) (A : Area) (s : Seen) (i x y : ℕ) → SizeRight t → Searches t A s → s ≡ Seens.Solid i x y → i < 2 ^ 31
-searches-low t A s i x y z (nothing h) e = absurd (let z : _≡_ {A = ℕ} 0 1 = cc in omega arith)
+searches-low t A s i x y z (nothing h u) e = absurd (let z : _≡_ {A = ℕ} 0 1 = cc in omega arith)
 searches-low t A s i x y z (solid {i = k} h) e = let d : k ≡ i = cc in low-record t i z (omega (arith, h .solid .below))
 
 -- ---- enumeration

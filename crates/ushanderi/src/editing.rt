@@ -26,10 +26,10 @@ use seek::Area;
 use seek::Seen;
 use table::numbers;
 
-// Whether a create may go on, and else the refusal as it goes out.
+// The refusal of a create as it goes out, or that it may go on: the search ended at this tile, where the new solid begins.
 enum MayCreate {
     Refused(Answer),
-    Go,
+    Go(usize),
 }
 
 // The decision on a table that is known to be sound and to have so many solids: 4, 5, 6, 7. The search starts at the tile `from`.
@@ -45,11 +45,13 @@ fn may_create(t: &[i32], from: usize, area: Area, label: u64, solids: usize) -> 
             });
         }
         let s = seek::search(t, from, area.left, area.bottom, area.right, area.top);
-        if let Seen::Solid(i, _, _) = s {
-            return MayCreate::Refused(answered(OCCUPIED, i as u64));
-        }
-        if solids < table::capacity(t) {
-            return MayCreate::Go;
+        match s {
+            Seen::Solid(i, _, _) => return MayCreate::Refused(answered(OCCUPIED, i as u64)),
+            Seen::Nothing(last) => {
+                if solids < table::capacity(t) {
+                    return MayCreate::Go(last);
+                }
+            }
         }
         return MayCreate::Refused(Answer {
             number: FULL,
@@ -62,8 +64,8 @@ fn may_create(t: &[i32], from: usize, area: Area, label: u64, solids: usize) -> 
     })
 }
 
-// The act, where the decision lets it go on: the new solid's record.
-fn draw(t: &mut [i32], from: usize, area: Area, label: u64) -> usize
+// The act, where the decision lets it go on: the new solid's record. Free records are sought near the record `near`.
+fn draw(t: &mut [i32], near: usize, from: usize, area: Area, label: u64) -> usize
     requires { ⌜ UsedIn (now t) from ⌝ }
     requires { ⌜ label < 2 ^ 32 ⌝ }
     requires { ⌜ CreateAllows (now t) (areaOf area) label ⌝ }
@@ -71,6 +73,7 @@ fn draw(t: &mut [i32], from: usize, area: Area, label: u64) -> usize
 {
     edit::create::create(
         t,
+        near,
         from,
         area.left,
         area.bottom,
@@ -103,7 +106,7 @@ pub(crate) fn create_one(
     let d = may_create(t, from, area, label, solids);
     match d {
         MayCreate::Refused(a) => Created::Refused(a),
-        MayCreate::Go => Created::At(draw(t, from, area, label)),
+        MayCreate::Go(last) => Created::At(draw(t, from, last, area, label)),
     }
 }
 

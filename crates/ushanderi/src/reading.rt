@@ -148,7 +148,7 @@ fn search_in(t: &[i32], area: Area) -> Answer
     let from = seek::first_used(t);
     let s = seek::search(t, from, area.left, area.bottom, area.right, area.top);
     match s {
-        Seen::Nothing => Answer {
+        Seen::Nothing(_) => Answer {
             number: DONE,
             value: NOTHING,
         },

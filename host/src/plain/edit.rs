@@ -1,5 +1,5 @@
 //! Create and delete on a sound table: tiles are split, joined and painted, and every cut-off piece is mended at once.
-use super::seek;
+use super::seek::{self, Seen};
 use crate::calls::{number, Answer};
 use crate::rects::Rect;
 use crate::words::*;
@@ -52,13 +52,14 @@ impl<'a> Editor<'a> {
         if label < 1 {
             return Answer::refused(number::LABEL);
         }
-        if let Some(blocker) = seek::search(self.table, from, rect) {
-            return Answer::with(number::OCCUPIED, blocker);
-        }
+        let last = match seek::search(self.table, from, rect) {
+            Seen::Solid(blocker) => return Answer::with(number::OCCUPIED, blocker),
+            Seen::Nothing(last) => last,
+        };
         if solids >= most_solids(self.table.len()) {
             return Answer::refused(number::FULL);
         }
-        Answer::done(self.create(from, rect, label))
+        Answer::done(self.create(last, rect, label))
     }
 
     /// Adds a solid where the area is free and the table has room: it grows upwards, one strip at a time, so that what is

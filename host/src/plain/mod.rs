@@ -8,7 +8,7 @@ pub mod seek;
 use crate::calls::{number, Answer};
 use crate::rects::Rect;
 use crate::words::*;
-use seek::Walk;
+use seek::{Seen, Walk};
 
 /// Makes the table an empty plane.
 pub fn fresh(words: &mut [i32]) -> Answer {
@@ -81,8 +81,8 @@ pub fn search(words: &[i32], left: i32, bottom: i32, right: i32, top: i32) -> An
     let area = Rect { left, bottom, right, top };
     match sound_area(words, &area) {
         Ok((table, _)) => match seek::search(table, seek::start(table, NO_TILE), &area) {
-            Some(solid) => Answer::done(solid),
-            None => Answer { number: number::DONE, value: NO_TILE },
+            Seen::Solid(solid) => Answer::done(solid),
+            Seen::Nothing(_) => Answer { number: number::DONE, value: NO_TILE },
         },
         Err(refusal) => refusal,
     }

@@ -58,22 +58,30 @@ fn down_to(table: &[Record], mut at: usize, y: i32) -> usize {
     at
 }
 
-/// The solid that holds the area's first occupied cell: down the area's left edge, one strip at a time.
-pub fn search(table: &[Record], from: usize, area: &Rect) -> Option<usize> {
+/// What a search of an area ends with.
+pub enum Seen {
+    /// The area is free; the tile met last holds its lower left cell.
+    Nothing(usize),
+    /// The solid that holds the area's first occupied cell.
+    Solid(usize),
+}
+
+/// Looks for the area's first occupied cell: down the area's left edge, one strip at a time.
+pub fn search(table: &[Record], from: usize, area: &Rect) -> Seen {
     let mut at = from;
     let mut row = area.top - 1;
     loop {
         at = find(table, at, area.left, row);
         let tile = &table[at];
         if tile[KIND] == SOLID {
-            return Some(at);
+            return Seen::Solid(at);
         }
         // The tile's own tr may lie above the area, so the row asked about decides.
         if tile[RIGHT] < area.right {
-            return Some(find(table, at, tile[RIGHT], row));
+            return Seen::Solid(find(table, at, tile[RIGHT], row));
         }
         if tile[BOTTOM] <= area.bottom {
-            return None;
+            return Seen::Nothing(at);
         }
         row = tile[BOTTOM] - 1;
     }

@@ -59,7 +59,7 @@ returns c =
     solid (first-of-area _ _ _ _ _ _ (l .before .loop .inv) (l .loop-test .taken) s)
 
 returns-2 : tie.Need-returns-2 Inv-loop μ-loop
-returns-2 c = nothing (free-ends _ _ _ _ (c .before .loop .inv) (omega arith))
+returns-2 c = let i = c .before .loop .inv in nothing (free-ends _ _ _ _ i (omega arith)) (i .used)
 
 pub search-spec : {M : Type 1} → statement M
 search-spec =

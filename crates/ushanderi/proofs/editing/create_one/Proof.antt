@@ -11,15 +11,15 @@ may-create-requires c κs = search needs
 enum-known-d : tie.Need-enum-known-d
 enum-known-d c = search needs
 
-enum-told : tie.Need-enum-told
-enum-told c = search needs
+enum-known-d-2 : tie.Need-enum-known-d-2
+enum-known-d-2 c = search needs
 
 draw-requires : tie.Need-draw-requires
 draw-requires c κs =
-    let k = c .before in
+    let k = c .before .before in
     let m = k .before .before in
-    let r = m .before .before .pre in
-    (r .used, (r .word, subst (CreateDecides _ _ _) (k .enum-told .given .1) (m .may-create .ensures)))
+    let (u, a) = subst (CreateDecides _ _ _) (k .d2 .given .1) (m .may-create .ensures) in
+    (u, (m .before .before .pre .word, a))
 
 same-length : tie.Need-same-length
 same-length c = search needs
@@ -41,7 +41,7 @@ create-one-spec =
     (tie.spec
     may-create-requires
     enum-known-d
-    enum-told
+    enum-known-d-2
     draw-requires
     same-length
     returns

@@ -44,36 +44,39 @@ returns-2 c =
     CreateRefuses.occupied (s .pre .fit) (yes (k .before .rect-right .ensures) (k .if1 .taken)) (l .if2 .left) _ _ _
     (searches-met _ _ _ _ _ _ (r .search .ensures) (m .s .given .1)) (c .answered .ensures)
 
-enum-told : tie.Need-enum-told
-enum-told c = search needs
+enum-known-s-2 : tie.Need-enum-known-s-2
+enum-known-s-2 c = search needs
 
 capacity-requires : tie.Need-capacity-requires
 capacity-requires c κs = search needs
 
 returns-3 : tie.Need-returns-3
 returns-3 c =
-    let n = c .before .before in
+    let n = c .before .before .before in
     let r = n .before .before in
     let l = r .before in
     let k = l .before in
     let s = k .before .before in
-    record {
-      fit = s .pre .fit;
-      rect = yes (k .before .rect-right .ensures) (k .if1 .taken);
-      named = l .if2 .left;
-      free = searches-free _ _ _ (r .search .ensures) (n .enum-told .given .1);
-      few = omega (arith, s .pre .number, c .before .capacity .ensures, c .if3 .taken);
-    }
+    let (free, used) = searches-free _ _ _ _ (r .search .ensures) (n .s2 .given .1) in (
+      used,
+      record {
+        fit = s .pre .fit;
+        rect = yes (k .before .rect-right .ensures) (k .if1 .taken);
+        named = l .if2 .left;
+        free = free;
+        few = omega (arith, s .pre .number, c .before .capacity .ensures, c .if3 .taken);
+      },
+    )
 
 returns-4 : tie.Need-returns-4
 returns-4 c =
-    let n = c .before .before in
+    let n = c .before .before .before in
     let r = n .before .before in
     let l = r .before in
     let k = l .before in
     let s = k .before .before in
     CreateRefuses.full (s .pre .fit) (yes (k .before .rect-right .ensures) (k .if1 .taken)) (l .if2 .left)
-    (searches-free _ _ _ (r .search .ensures) (n .enum-told .given .1))
+    (searches-free _ _ _ _ (r .search .ensures) (n .s2 .given .1) .0)
     (at-capacity _ (s .pre .fit) (omega (arith, s .pre .number, c .before .capacity .ensures, c .if3 .left))) refl
 
 returns-5 : tie.Need-returns-5
@@ -89,7 +92,7 @@ may-create-spec =
     enum-known-s
     answered-requires
     returns-2
-    enum-told
+    enum-known-s-2
     capacity-requires
     returns-3
     returns-4

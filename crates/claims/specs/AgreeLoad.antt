@@ -17,7 +17,7 @@ use Rattle.ushanderi.specs.Promises.{Fit, CreateRefuses, CreateDone, CreateSays
 use Rattle.claims.specs.AgreeChecks.{Then, stops, goes, same, join, number-is, not-done}
 use Rattle.claims.specs.AgreeTables.{Alike, alike-self, alike-renumbered}
 use Rattle.claims.specs.AgreeCreate.{refuses-not-done, create-alike}
-use Rattle.claims.specs.Terms.{Renumbered, LoadAgrees}
+use Rattle.claims.specs.Terms.{Renumbered, LoadAgrees, Stop}
 
 -- a fresh plane of the right size is fit
 pub fresh-fit : (t : List ℤ) → SizeRight t → Fit (freshTable (length t))
@@ -57,34 +57,27 @@ module _ (t : List ℤ) (s : SizeRight t) (bs : List ℕ) where
       (λ e. subst Step (sym e) (record { before = w; built = b; after = u; at = i; done = c }))
       (λ d. step-of k w b m (omega arith))
 
-  -- a record at which the load is refused
-  pub record Stop (n number : ℕ) : Type 0 where
-    pub before : List ℤ
-    pub built : Built (length t) bs n before
-    pub value : ℕ
-    pub refuses : CreateRefuses before (areaIn bs n) (savedAt bs n .label) (answered number value)
-
-  no-step : (n number : ℕ) → Stop n number → Step n → ⊥
+  no-step : (n number : ℕ) → Stop t bs n number → Step n → ⊥
   no-step n number p q =
       let l = built-alike n n (p .before) (q .before) refl (p .built) (q .built) in
       refuses-not-done (p .refuses)
       (create-alike (p .before) (q .before) (areaIn bs n) (savedAt bs n .label) (p .before) (q .after) (answered number (p .value)) (accepted (q .at)) l
       (CreateSays.refuses (p .refuses) refl) (CreateSays.done (q .at) (q .done) refl) .number)
 
-  stop-number : (n c d : ℕ) → Stop n c → Stop n d → c ≡ d
+  stop-number : (n c d : ℕ) → Stop t bs n c → Stop t bs n d → c ≡ d
   stop-number n c d p q =
       let l = built-alike n n (p .before) (q .before) refl (p .built) (q .built) in
       let e = create-alike (p .before) (q .before) (areaIn bs n) (savedAt bs n .label) (p .before) (q .before) (answered c (p .value)) (answered d (q .value)) l
       (CreateSays.refuses (p .refuses) refl) (CreateSays.refuses (q .refuses) refl) .number in
       cc
 
-  stop-before : (m n c d : ℕ) → Stop m c → Stop n d → n ≤ m
+  stop-before : (m n c d : ℕ) → Stop t bs m c → Stop t bs n d → n ≤ m
   stop-before m n c d p q = lt-cases m n (λ h. absurd (no-step m c p (step-of n (q .before) (q .built) m h))) (λ h. h)
 
-  stop-one : (m n c d : ℕ) → Stop m c → Stop n d → (m ≡ n) × (c ≡ d)
+  stop-one : (m n c d : ℕ) → Stop t bs m c → Stop t bs n d → (m ≡ n) × (c ≡ d)
   stop-one m n c d p q =
       let e : n ≡ m = omega (arith, stop-before m n c d p q, stop-before n m d c q p) in
-      (sym e, stop-number m c d p (subst (λ n. Stop n d) e q))
+      (sym e, stop-number m c d p (subst (λ n. Stop t bs n d) e q))
 
 -- ---- two answers to one load
 
@@ -93,7 +86,7 @@ module _ (t : List ℤ) (bs : List ℕ) where
     n : ℕ
     number : ℕ
     below : n < length bs / SAVED
-    stop : Stop t s bs n number
+    stop : Stop t bs n number
     is : a ≡ answered number n
     fresh : t′ ≡ freshTable (length t)
 

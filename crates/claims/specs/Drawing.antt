@@ -1,16 +1,17 @@
 -- The drawn rectangles of 01's examples, and what it is that a table draws certain solids. Assumes nothing.
-use Rattle.seek.specs.Meaning.{Area}
-use Rattle.geometry.specs.Picture.{SPACE, Tile, solidPaint}
+use mathlib.Core.List.{List, _++_, _∷_, []}
 use Prim.Native.Nat.{_-_, ℕ, _*_}
 use lib.IntN.{negsuc, pos, ℤ}
+use lib.ListN.{replicate}
 use Rattle.ruler.specs.Ruler.{ruler}
-use Rattle.claims.specs.History.{Among}
-use Rattle.ushanderi.specs.Promises.{Fit}
-use mathlib.Core.List.{List, _++_, _∷_}
-use Rattle.claims.specs.Terms.{Shows}
+use Rattle.geometry.specs.Picture.{SPACE, Tile, solidPaint}
 use Rattle.table.specs.Sound.{SolidIn}
 use Rattle.table.specs.Words.{tileOf, WIDTH}
-use lib.ListN.{replicate}
+use Rattle.table.specs.Fresh.{freshTable}
+use Rattle.seek.specs.Meaning.{Area}
+use Rattle.ushanderi.specs.Promises.{Fit}
+use Rattle.claims.specs.History.{Among}
+use Rattle.claims.specs.Terms.{Shows}
 
 abbrev pub solid : ℤ → ℤ → ℤ → ℤ → ℕ → Tile
 solid l b r t label = record { left = ruler l; bottom = ruler b; right = ruler r; top = ruler t; paint = solidPaint (ruler (pos label)) }
@@ -60,12 +61,18 @@ areaOf v = record { left = v .left; bottom = v .bottom; right = v .right; top = 
 abbrev pub rec : ℤ → ℤ → ℤ → ℤ → ℤ → ℤ → ℤ → ℤ → ℕ → ℕ → List ℤ
 rec l b r t tr rt bl lb kind label = l ∷ b ∷ r ∷ t ∷ tr ∷ rt ∷ bl ∷ lb ∷ pos kind ∷ pos label ∷ []
 
+-- so many free records
+abbrev pub free : ℕ → List ℤ
+free n = replicate (WIDTH * n) (pos 0)
+
+-- a table of 20 records with the whole plane as a solid
+unfoldable pub full : List ℤ
+full = rec -E -E E E (neg 1) (neg 1) (neg 1) (neg 1) 2 1 ++ free 19
+
 -- the same in the next record
 unfoldable pub fullNext : List ℤ
 fullNext = free 1 ++ rec -E -E E E (neg 1) (neg 1) (neg 1) (neg 1) 2 1 ++ free 18
 
-abbrev pub free : ℕ → List ℤ
-free n = replicate (WIDTH * n) (pos 0)
-
-unfoldable pub full : List ℤ
-full = rec -E -E E E (neg 1) (neg 1) (neg 1) (neg 1) 2 1 ++ free 19
+-- the fresh plane of 20 records
+unfoldable pub blank : List ℤ
+blank = freshTable 200

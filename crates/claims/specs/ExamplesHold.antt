@@ -37,7 +37,7 @@ use Rattle.claims.specs.Allowed.{find-is, find-point, search-free, searc
 use Rattle.claims.specs.Examples
 use Rattle.claims.specs.Examples.{Answers, Lends, Example, holds, AllHold, end, _and_, ABC, bottomStrip, leftOfA, gap, rightOfB, strip10to15, leftOfC, rightOfC, topStrip, examples}
 use Rattle.claims.specs.Terms.{Shows, SamePicture, Created}
-use Rattle.claims.specs.Drawing.{solid, space, area, neg, E, -E, A, B, C, D, W, Draws, areaOf, full}
+use Rattle.claims.specs.Drawing.{solid, space, area, neg, E, -E, A, B, C, D, W, Draws, areaOf, full, blank}
 
 -- an entry of a list stands in it
 times-at : (ks : List ℕ) (n : ℕ) → n < length ks → 1 ≤ times (getD ks n 0) ks
@@ -307,10 +307,6 @@ fresh-done t t′ a z (FreshSays.done s e w) = (e, subst (λ t′. Draws t′ []
 fresh-size : (t t′ : List ℤ) (a : Answer) → FreshSays t t′ a → length t′ ≡ length t
 fresh-size t t′ a (FreshSays.size n e w) = ap length w
 fresh-size t t′ a (FreshSays.done s e w) = ap length w ∙ fresh-length (length t) (omega (arith, s .least))
-
--- the fresh plane of 20 records
-unfoldable pub blank : List ℤ
-blank = freshTable 200
 
 pub blank-draws : Draws blank []
 unfolding blank

@@ -16,8 +16,8 @@ use Rattle.claims.specs.AgreeChecks.{solid-used}
 use Rattle.claims.specs.AgreePicture.{tile-once}
 use Rattle.claims.specs.Draws.{draws-free}
 use Rattle.claims.specs.Tables.{full-draws, full-next-draws}
-use Rattle.claims.specs.ExamplesHold.{blank, blank-draws}
-use Rattle.claims.specs.Drawing.{W, Draws, areaOf, fullNext, full}
+use Rattle.claims.specs.ExamplesHold.{blank-draws}
+use Rattle.claims.specs.Drawing.{W, Draws, areaOf, fullNext, full, blank}
 
 adds-whole : (u : List ℤ) (k : ℕ) → Draws u (W ∷ []) → SolidIn u k → Adds blank u k W
 adds-whole u k d s = record {

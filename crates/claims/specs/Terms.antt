@@ -1,21 +1,21 @@
 -- The terms in which the claims are stated: when two tables are the same picture, and what agrees where 01 leaves record numbers open. Assumes nothing.
 use mathlib.Core.List.{List}
-use Rattle.table.specs.Sound.{SolidIn, UsedIn, NONE, Zeros}
-use Rattle.geometry.specs.Picture.{Tile, FREE, ZERO, Has}
 use mathlib.Core.Logic.{_↔_, _≢_}
 use mathlib.Core.Path.{_≡_}
-use Rattle.table.specs.Words.{tileOf, BL, KIND, LB, RT, TR, num, recordsOf}
+use mathlib.Core.Bool.{Bool}
 use Prim.Native.Nat.{ℕ, _+_, _<_, _%_, _/_, _≤_}
 use lib.IntN.{ℤ, pos}
-use mathlib.Core.Bool.{Bool}
-use Rattle.geometry.specs.Counting.{count}
 use lib.Dec.{eqb}
 use lib.ListN.{length}
-use Rattle.ushanderi.specs.declared.answer.Answer.{Answer}
+use Rattle.geometry.specs.Picture.{Tile, FREE, ZERO, Has}
+use Rattle.geometry.specs.Counting.{count}
+use Rattle.table.specs.Sound.{SolidIn, UsedIn, NONE, Zeros}
+use Rattle.table.specs.Words.{tileOf, BL, KIND, LB, RT, TR, num, recordsOf}
 use Rattle.seek.specs.Meaning.{Area, InArea, RectRight}
-use Rattle.ushanderi.specs.Promises.{CreateDone, areaIn}
-use Rattle.ushanderi.specs.Answers.{DONE, accepted, refused}
 use Rattle.layout.specs.Bytes.{savedAt, SAVED}
+use Rattle.ushanderi.specs.declared.answer.Answer.{Answer}
+use Rattle.ushanderi.specs.Promises.{CreateDone, areaIn, Built, CreateRefuses}
+use Rattle.ushanderi.specs.Answers.{DONE, accepted, refused, answered}
 
 -- some record of t is the solid w
 pub record Shows (t : List ℤ) (w : Tile) : Type 0 where
@@ -125,3 +125,10 @@ pub record Shares (v : Tile) (A : Area) : Type 0 where
   pub y : ℕ
   pub inside : InArea A x y
   pub has : Has v x y
+
+-- a record of a file at which its load is refused
+pub record Stop (t : List ℤ) (bs : List ℕ) (n number : ℕ) : Type 0 where
+  pub before : List ℤ
+  pub built : Built (length t) bs n before
+  pub value : ℕ
+  pub refuses : CreateRefuses before (areaIn bs n) (savedAt bs n .label) (answered number value)

@@ -31,10 +31,9 @@ use Rattle.claims.specs.AgreeChecks.{fit-forms, number-is, number-one, n
 use Rattle.claims.specs.AgreeReads.{neighbours-agrees}
 use Rattle.claims.specs.AgreeCreate.{edited-fit, create-done, create-agrees}
 use Rattle.claims.specs.AgreeDelete.{delete-done}
-use Rattle.claims.specs.AgreeLoad.{Stop}
 use Rattle.claims.specs.Allowed.{deletes}
 use Rattle.claims.specs.Shams.{Refuses, negative}
-use Rattle.claims.specs.Terms.{Keeps, Shares}
+use Rattle.claims.specs.Terms.{Keeps, Shares, Stop}
 
 same-value : {m n i j : ℕ} → answered m i ≡ answered n j → i ≡ j
 same-value {i = i} {j = j} e = let z : pos i ≡ pos j = ap (λ a. a .value) e in cc
@@ -107,13 +106,13 @@ stopped-fresh t bs t′ a z d (LoadSays.done y n b e) r = absurd (r (number-is e
 
 -- or that tells another index than that of the refused record
 pub stopped-at : (t : List ℤ) (bs : List ℕ) (t′ : List ℤ) (number n : ℕ) → (z : SizeRight t) → length bs % SAVED ≡ 0 → number ≢ DONE
-    → LoadSays t bs t′ (answered number n) → Stop t z bs n number
+    → LoadSays t bs t′ (answered number n) → Stop t bs n number
 stopped-at t bs t′ number n z d r (LoadSays.size m e w) = absurd (m z)
 stopped-at t bs t′ number n z d r (LoadSays.file y m e w) = absurd (m d)
 stopped-at t bs t′ number n z d r (LoadSays.stopped (LoadStops.stops y q m c value u h b o e) w) =
     let number-same : c ≡ number = number-one {a = answered c m} refl (sym (number-is e)) in
-    subst (λ number. Stop t z bs n number) number-same
-    (subst (λ n. Stop t z bs n c) (sym (same-value e)) (record { before = u; built = b; value = value; refuses = o }))
+    subst (λ number. Stop t bs n number) number-same
+    (subst (λ n. Stop t bs n c) (sym (same-value e)) (record { before = u; built = b; value = value; refuses = o }))
 stopped-at t bs t′ number n z d r (LoadSays.done y q b e) = absurd (r (number-one {a = answered number n} refl (number-is e)))
 
 -- ---- entries past the count changed

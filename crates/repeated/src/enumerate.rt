@@ -1,4 +1,4 @@
-// The directed order, again and again: the tiles are counted, and where there is room they are listed.
+// The directed order, again and again: where the list has not room for every record the tiles are counted, and where it has room for them they are listed.
 ghost use Rattle.seek.specs.Meaning.{RectRight};
 ghost use Rattle.seek.specs.Enumerate.{areaOf};
 ghost use Rattle.repeated.specs.Entry.{Fit};
@@ -18,11 +18,13 @@ fn area_from(t: &[i32], hint: u64, area: Area, list: &mut [i32]) -> usize
     ensures { λ r. ⌜ AreaListed (now (t .entry)) (areaOf area) (now (list .entry)) (now (list .exit)) r ⌝ }
 {
     let from = seek::start(t, hint);
-    let n = seek::count_area(t, from, area);
-    if n <= list.len() {
-        return seek::list_area(t, list, from, area);
+    if list.len() < table::records(t) {
+        let n = seek::count_area(t, from, area);
+        if list.len() < n {
+            return n;
+        }
     }
-    n
+    seek::list_area(t, list, from, area)
 }
 
 fn area_often(t: &[i32], area: Area, list: &mut [i32], times: u32) -> usize

@@ -11,8 +11,8 @@ use Rattle.ruler.specs.Ruler.{ruler, ruler-bits}
 use Rattle.table.specs.Sound.{SizeRight}
 use Rattle.seek.specs.Meaning.{Area, RectRight, Directed}
 use Rattle.seek.specs.Search.{Searches, nothing, solid}
-use Rattle.seek.specs.Writing.{writes-count, writes-whole}
-use Rattle.seek.specs.Enumerate.{WritesArea, CountsArea, counts-area-one, counts-area-short}
+use Rattle.seek.specs.Writing.{writes-whole}
+use Rattle.seek.specs.Enumerate.{WritesArea, CountsArea, counts-area-short}
 use Rattle.seek.specs.declared.area.Seen.{Seen}
 use Rattle.seek.specs.declared.area.Seen.the-variants as Seens
 use Rattle.ushanderi.specs.Answers
@@ -63,9 +63,8 @@ pub enumerate-short : (t : List ℤ) (A : Area) (n : ℕ) (out : List ℤ) → F
     → EnumerateSays t A out out (answered SHORT n)
 enumerate-short t A n out f r c h = EnumerateSays.short f r (c .list) (c .is) (omega (arith, c .count)) (ap (answered SHORT) (c .count)) refl
 
-pub enumerate-done : (t : List ℤ) (A : Area) (m n : ℕ) (out out′ : List ℤ) → Fit t → RectRight A → CountsArea t A m → m ≤ length out → WritesArea t A out out′ n
+pub enumerate-done : (t : List ℤ) (A : Area) (n : ℕ) (out out′ : List ℤ) → Fit t → RectRight A → n ≤ length out → WritesArea t A out out′ n
     → EnumerateSays t A out out′ (accepted n)
-enumerate-done t A m n out out′ f r c h w =
-    let e : m ≡ n = counts-area-one t (fit-forms t f) A m n c (writes-count (Directed t A) out out′ n w) in
-    let new = writes-whole (Directed t A) out out′ n w (omega arith) in
+enumerate-done t A n out out′ f r h w =
+    let new = writes-whole (Directed t A) out out′ n w h in
     EnumerateSays.done f r (w .list) (w .is) (omega (arith, w .count)) (ap accepted (w .count)) (new ∙ ap (λ n. map pos (w .list) ++ drop n out) (w .count))

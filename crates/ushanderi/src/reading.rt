@@ -174,16 +174,18 @@ pub fn search(t: &[i32], left: i32, bottom: i32, right: i32, top: i32) -> Answer
     }
 }
 
-// The tiles of an area, if the list has room for them.
+// The tiles of an area, if the list has room for them. They are at most the records, so that they are counted first only where a list is shorter.
 fn enumerate_in(t: &[i32], area: Area, out: &mut [i32]) -> Answer
     requires { ⌜ Fit (now t) ⌝ }
     requires { ⌜ RectRight (areaOf area) ⌝ }
     ensures { λ r. ⌜ EnumerateSays (now (t .entry)) (areaOf area) (now (out .entry)) (now (out .exit)) r ⌝ }
 {
     let from = seek::first_used(t);
-    let needed = seek::count_area(t, from, area);
-    if out.len() < needed {
-        return answered(SHORT, needed as u64);
+    if out.len() < table::records(t) {
+        let needed = seek::count_area(t, from, area);
+        if out.len() < needed {
+            return answered(SHORT, needed as u64);
+        }
     }
     let written = seek::list_area(t, out, from, area);
     done(written as u64)

@@ -92,7 +92,7 @@ pub fn search(words: &[i32], left: i32, bottom: i32, right: i32, top: i32) -> An
 pub fn enumerate(words: &[i32], left: i32, bottom: i32, right: i32, top: i32, list: &mut [i32]) -> Answer {
     let area = Rect { left, bottom, right, top };
     match sound_area(words, &area) {
-        Ok((table, _)) => fill(list, &seek::Listing { table, from: seek::start(table, NO_TILE), area }),
+        Ok((table, _)) => list_area(list, &seek::Listing { table, from: seek::start(table, NO_TILE), area }),
         Err(refusal) => refusal,
     }
 }
@@ -104,8 +104,23 @@ pub fn fill(list: &mut [i32], walk: &impl Walk) -> Answer {
     if list.len() < count {
         return Answer::with(number::SHORT, count);
     }
-    let mut entries = list.iter_mut();
-    walk.each(|record| *entries.next().expect("both walks meet the same tiles") = record as i32);
+    write(list, walk)
+}
+
+/// The same for an area, whose tiles are at most the records: they are counted only where the list is shorter.
+pub fn list_area(list: &mut [i32], walk: &seek::Listing) -> Answer {
+    if list.len() < walk.table.len() {
+        return fill(list, walk);
+    }
+    write(list, walk)
+}
+
+fn write(list: &mut [i32], walk: &impl Walk) -> Answer {
+    let mut count = 0;
+    walk.each(|record| {
+        list[count] = record as i32;
+        count += 1;
+    });
     Answer::done(count)
 }
 

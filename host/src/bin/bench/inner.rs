@@ -212,7 +212,7 @@ fn enumerate(work: &Work) -> Medians {
             without_check(times, |_, repeats| {
                 after_check(words, repeats, |run| {
                     let walk = Listing { table: black_box(table), from: seek::start(table, run), area: Rect::PLANE };
-                    consumed(plain::fill(black_box(&mut plain_list), &walk));
+                    consumed(plain::list_area(black_box(&mut plain_list), &walk));
                 })
             })
         },

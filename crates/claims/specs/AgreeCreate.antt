@@ -9,18 +9,18 @@ use lib.IntN.{ℤ, pos}
 use Rattle.geometry.specs.Cases.{eq-cases}
 use Rattle.geometry.specs.Picture.{ZERO, Tile, Has}
 use Rattle.table.specs.Words.{WIDTH, recordsOf, tileOf}
-use Rattle.table.specs.Sound.{capacity, solidsIn, SolidIn}
+use Rattle.table.specs.Sound.{capacity, solidsIn}
 use Rattle.seek.specs.Meaning.{Area, RectRight, First}
 use Rattle.seek.specs.Search.{first-one, free-no-first}
-use Rattle.ushanderi.specs.Answers.{DONE, RECT, LABEL, OCCUPIED, FULL, answered, accepted, refused}
+use Rattle.ushanderi.specs.Answers.{DONE, RECT, LABEL, OCCUPIED, FULL, answered, refused}
 use Rattle.ushanderi.specs.declared.answer.Answer.{Answer}
 use Rattle.ushanderi.specs.Edits.{drawn, Adds, Edited}
-use Rattle.ushanderi.specs.Promises.{Unfit, Fit, CreateRefuses, CreateDone, CreateSays}
+use Rattle.ushanderi.specs.Promises.{Unfit, Fit, CreateRefuses, CreateSays}
 use Rattle.ushanderi.specs.Editing.{refusal}
 use Rattle.claims.specs.AgreeChecks.{Then, stops, goes, both, same, join, NotFit, not-fit, unfit-agrees, fit-forms, number-is, not-done, unfit-not-done}
 use Rattle.claims.specs.AgreePicture.{picture-turned, shows, picture-count}
 use Rattle.claims.specs.AgreeTables.{Alike, alike-self, alike-turned, alike-renumbered}
-use Rattle.claims.specs.Terms.{Shows, SamePicture, Renumbered, CreateAgrees, Created}
+use Rattle.claims.specs.Terms.{Shows, SamePicture, CreateAgrees, Created}
 
 -- ---- create's checks in their order
 

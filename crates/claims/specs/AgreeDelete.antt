@@ -1,12 +1,11 @@
 -- Two answers that delete's promise allows agree wholly, and so do their solids, record by record. Assumes nothing.
 use mathlib.Core.Path.{_≡_, sym, ap, _∙_, subst}
-use mathlib.Core.Logic.{_≢_, _↔_}
+use mathlib.Core.Logic.{_≢_}
 use mathlib.Core.List.{List}
 use Prim.Native.Nat.{ℕ}
 use native.Mathlib.Omega.{arith}
 use lib.IntN.{ℤ, pos}
 use Rattle.geometry.specs.Picture.{InPlane}
-use Rattle.table.specs.Words.{tileOf}
 use Rattle.table.specs.Sound.{SolidIn, SpaceIn}
 use Rattle.seek.specs.Find.{Finds}
 use Rattle.ushanderi.specs.Answers.{DONE, POINT, SPACE, ROOM, accepted, refused}
@@ -16,7 +15,7 @@ use Rattle.ushanderi.specs.Promises.{Unfit, Fit, DeleteRefuses, DeleteDone, Del
 use Rattle.claims.specs.AgreeChecks.{Then, stops, goes, same, join, NotFit, not-fit, unfit-agrees, fit-finds-one, finds-inside, number-is, not-done, unfit-not-done}
 use Rattle.claims.specs.AgreeTables.{alike-renumbered}
 use Rattle.claims.specs.AgreeCreate.{edited-fit}
-use Rattle.claims.specs.Terms.{SamePicture, Renumbered, SameRecords, DeleteAgrees}
+use Rattle.claims.specs.Terms.{SamePicture, SameRecords, DeleteAgrees}
 
 -- ---- delete's checks in their order
 

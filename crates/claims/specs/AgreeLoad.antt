@@ -13,11 +13,11 @@ use Rattle.table.specs.FreshSound.{fresh-length, fresh-sound}
 use Rattle.layout.specs.Bytes.{savedAt, SAVED}
 use Rattle.ushanderi.specs.Answers.{DONE, SIZE, FILE, answered, accepted, refused}
 use Rattle.ushanderi.specs.declared.answer.Answer.{Answer}
-use Rattle.ushanderi.specs.Promises.{Fit, CreateRefuses, CreateDone, CreateSays, areaIn, Built, LoadStops, LoadSays}
+use Rattle.ushanderi.specs.Promises.{Fit, CreateDone, CreateSays, areaIn, Built, LoadStops, LoadSays}
 use Rattle.claims.specs.AgreeChecks.{Then, stops, goes, same, join, number-is, not-done}
 use Rattle.claims.specs.AgreeTables.{Alike, alike-self, alike-renumbered}
 use Rattle.claims.specs.AgreeCreate.{refuses-not-done, create-alike}
-use Rattle.claims.specs.Terms.{Renumbered, LoadAgrees, Stop}
+use Rattle.claims.specs.Terms.{LoadAgrees, Stop}
 
 -- a fresh plane of the right size is fit
 pub fresh-fit : (t : List ℤ) → SizeRight t → Fit (freshTable (length t))

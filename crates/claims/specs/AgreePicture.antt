@@ -1,6 +1,5 @@
 -- Pictures of tables: when two tables show the same solids, and that they then have the same tiles, space too, and equally many. Assumes nothing.
 use mathlib.Core.Path.{_≡_, refl, sym, _∙_}
-use mathlib.Core.Logic.{_↔_}
 use mathlib.Core.List.{List}
 use Prim.Native.Nat.{ℕ, _≤_}
 use native.Mathlib.Omega.{arith}

@@ -1,7 +1,6 @@
 -- Two sound tables of one length and one picture are one table but for the numbers of their records: the tiles agree, stitches name tiles that agree,
 -- and the other records are as many, all zeros. What a reader must believe about the records that 01 leaves open. Assumes nothing.
 use mathlib.Core.Path.{_≡_, refl, sym, ap, subst, subst₂}
-use mathlib.Core.Bool.{Bool}
 use mathlib.Core.List.{List}
 use Prim.Native.Nat.{ℕ, _+_, _-_, _/_, _<_}
 use native.Mathlib.Omega.{arith}
@@ -14,12 +13,12 @@ use Rattle.geometry.specs.Picture.{ZERO, LOW, HIGH, FREE, SPACE, SOLID, InPlane
 use Rattle.geometry.specs.Tiling.{Kinded}
 use Rattle.geometry.specs.Counting.{only, count}
 use Rattle.table.specs.Words.{WIDTH, TR, RT, BL, LB, KIND, recordsOf, num, tileOf}
-use Rattle.table.specs.Sound.{NONE, Named, Names, Zeros, solidAt, spaceAt, solidsIn, spacesIn}
+use Rattle.table.specs.Sound.{Named, Names, solidAt, spaceAt, solidsIn, spacesIn}
 use Rattle.ushanderi.specs.Promises.{Fit}
 use Rattle.claims.specs.AgreeChecks.{fit-forms, fit-finds-one}
 use Rattle.claims.specs.AgreePicture.{picture-turned, space-agrees, picture-count}
 use Rattle.claims.specs.Pictures.{twin, same-spaces}
-use Rattle.claims.specs.Terms.{SamePicture, SameTiles, Twins, SameStitch, SameStitches, freeAt, freeIn, Renumbered}
+use Rattle.claims.specs.Terms.{SamePicture, Twins, SameStitch, SameStitches, freeAt, freeIn, Renumbered}
 
 -- ---- what agrees
 

@@ -1,15 +1,15 @@
 -- A file that no check refuses is loaded whole. Assumes nothing.
 use mathlib.Core.Path.{_≡_, _∙_, subst}
 use mathlib.Core.List.{List}
-use Prim.Native.Nat.{ℕ, _/_, _%_, _≤_, _<_}
+use Prim.Native.Nat.{ℕ, _/_, _<_}
 use native.Mathlib.Omega.{arith}
 use lib.IntN.{ℤ}
 use lib.ListN.{length}
-use Rattle.geometry.specs.Picture.{ZERO, Has}
+use Rattle.geometry.specs.Picture.{Has}
 use Rattle.table.specs.Words.{recordsOf, tileOf}
 use Rattle.table.specs.Sound.{SizeRight, capacity}
 use Rattle.table.specs.FreshSound.{fresh-length}
-use Rattle.seek.specs.Meaning.{InArea, RectRight, FreeArea}
+use Rattle.seek.specs.Meaning.{FreeArea}
 use Rattle.layout.specs.Bytes.{savedAt, SAVED}
 use Rattle.ushanderi.specs.Answers.{accepted}
 use Rattle.ushanderi.specs.declared.answer.Answer.{Answer}

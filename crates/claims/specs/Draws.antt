@@ -12,9 +12,8 @@ use Rattle.table.specs.Words.{KIND, tileOf}
 use Rattle.table.specs.Sound.{SizeRight, SolidIn}
 use Rattle.table.specs.Fresh.{freshTable}
 use Rattle.table.specs.FreshSound.{OneTile, fresh-one}
-use Rattle.seek.specs.Meaning.{Area, FreeCell}
+use Rattle.seek.specs.Meaning.{FreeCell}
 use Rattle.ushanderi.specs.Edits.{Adds, Removes, Edited}
-use Rattle.ushanderi.specs.Promises.{Fit}
 use Rattle.claims.specs.AgreeChecks.{solid-used}
 use Rattle.claims.specs.AgreePicture.{shows, tile-once}
 use Rattle.claims.specs.AgreeCreate.{edited-fit}

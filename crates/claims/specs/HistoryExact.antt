@@ -10,13 +10,13 @@ use lib.IntN.{ℤ, pos}
 use lib.ListN.{length}
 use lib.Dec.{T}
 use Rattle.geometry.specs.Sums.{sum-add, sum-mono, sum-const}
-use Rattle.geometry.specs.Picture.{ZERO, SPACE, SOLID, Tile, Has}
+use Rattle.geometry.specs.Picture.{ZERO, SPACE, SOLID, Tile}
 use Rattle.geometry.specs.Tiling.{Kinded, eq→eqb}
 use Rattle.geometry.specs.Counting.{only, count}
 use Rattle.table.specs.Words.{KIND, recordsOf, num, tileOf}
 use Rattle.table.specs.Sound.{capacity, solidAt, spaceAt, solidsIn, SolidIn}
 use Rattle.table.specs.Forms.{sound-three}
-use Rattle.seek.specs.Meaning.{Area, RectRight, InArea, FreeArea}
+use Rattle.seek.specs.Meaning.{Area, RectRight, FreeArea}
 use Rattle.ushanderi.specs.Answers.{DONE, OCCUPIED, FULL, ROOM}
 use Rattle.ushanderi.specs.declared.answer.Answer.{Answer}
 use Rattle.ushanderi.specs.Edits.{NoRoom}

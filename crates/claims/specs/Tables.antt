@@ -1,18 +1,16 @@
 -- 01's drawn rectangles, and tables written out that draw them: A, A and B, A to C, A to C with the gap filled, the whole plane as one solid. Assumes nothing.
 use mathlib.Core.Path.{_≡_, refl}
 use mathlib.Core.List.{List, [], _∷_, _++_}
-use Prim.Native.Nat.{ℕ, _-_, _*_, _%_}
-use lib.IntN.{ℤ, pos, negsuc}
-use lib.ListN.{length, replicate}
+use Prim.Native.Nat.{_-_, _%_}
+use lib.IntN.{ℤ, pos}
+use lib.ListN.{length}
 use lib.Dec.{T, eqb, leb, eqb→eq, leb→le}
 use Rattle.ruler.specs.Ruler.{ruler}
-use Rattle.geometry.specs.Picture.{SPACE, SOLID, Tile, solidPaint}
 use Rattle.geometry.specs.Counting.{sumTo, count}
 use Rattle.table.specs.Words.{WIDTH, recordsOf, num}
 use Rattle.table.specs.Sound.{Sound, solidsIn, spacesIn}
 use Rattle.table.specs.Decide.{soundb, soundb-sound}
 use Rattle.table.specs.Examples.{one, abc, one-sound, abc-sound}
-use Rattle.seek.specs.Meaning.{Area}
 use Rattle.ushanderi.specs.Promises.{Fit}
 use Rattle.claims.specs.Tests.{drawsb, drawsb-draws}
 use Rattle.claims.specs.Drawing.{neg, E, -E, A, B, C, D, W, Draws, rec, fullNext, free, full}

@@ -1,11 +1,11 @@
 -- The form of a picture that proofs use gives the definition by free runs: space tiles are exactly the strips of the solids. Assumes nothing.
-use mathlib.Core.Path.{_≡_, refl, sym, _∙_, subst}
+use mathlib.Core.Path.{_≡_, refl, sym, subst}
 use mathlib.Core.Bool.{not}
 use Prim.Native.Nat.{ℕ, _-_, _≤_, _<_}
 use native.Mathlib.Omega.{arith}
 use lib.Dec.{T, T-not}
 use Rattle.geometry.specs.Cases.{lt-cases, T-cases}
-use Rattle.geometry.specs.Picture.{ZERO, SPACE, SOLID, Tile, Has, Limits, Solids, In, Apart, Free, Run, Strip, SpacePaint, TileOf, Used, Drawn}
+use Rattle.geometry.specs.Picture.{SOLID, Tile, Has, Limits, Solids, In, Apart, Free, Run, Strip, SpacePaint, TileOf, Used, Drawn}
 use Rattle.geometry.specs.Plane.{Plane, Is, At, Holds}
 use Rattle.geometry.specs.Strips.{Space, left-side, above}
 use Rattle.geometry.specs.Stitches.{Same, same}

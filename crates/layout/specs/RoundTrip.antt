@@ -1,12 +1,11 @@
 -- What is saved of a solid fits a record of a file. Assumes nothing.
 use mathlib.Core.Path.{_≡_, refl, sym, subst}
 use mathlib.Core.List.{List, [], _∷_, map}
-use Prim.Native.Nat.{ℕ, zero, suc, _<_, _^_}
+use Prim.Native.Nat.{ℕ, zero, suc, _<_}
 use native.Mathlib.Nat.{not-suc-le-zero, le-of-suc-le-suc}
 use native.Mathlib.Omega.{arith}
 use lib.IntN.{ℤ}
 use lib.ListN.{length, getD, length-map}
-use Rattle.table.specs.Words.{LABEL, num}
 use Rattle.table.specs.Sound.{SolidIn}
 use Rattle.table.specs.Forms.{Forms}
 use Rattle.seek.specs.Meaning.{Lists}

@@ -5,8 +5,8 @@ use mathlib.Core.List.{List, [], _∷_, _++_}
 use Prim.Native.Nat.{ℕ, _-_, _≤_, _<_, max}
 use lib.IntN.{ℤ}
 use lib.ListN.{length, getD}
-use Rattle.geometry.specs.Picture.{LOW, HIGH, SOLID, Has}
-use Rattle.table.specs.Words.{LEFT, BOTTOM, RIGHT, TOP, KIND, recordsOf, num, tileOf}
+use Rattle.geometry.specs.Picture.{LOW, HIGH, Has}
+use Rattle.table.specs.Words.{LEFT, BOTTOM, RIGHT, TOP, num, tileOf}
 use Rattle.table.specs.Sound.{UsedIn, SolidIn}
 
 -- ---- areas

@@ -11,7 +11,6 @@ use Rattle.ruler.specs.Ruler.{ruler, ruler-bits}
 use Rattle.table.specs.Words.{recordsOf}
 use Rattle.table.specs.Sound.{SizeRight, solidsIn}
 use Rattle.table.specs.Forms.{Forms, sound-forms}
-use Rattle.seek.specs.Meaning.{Area}
 use Rattle.seek.specs.Find.{Finds}
 use Rattle.ushanderi.specs.Answers.{SIZE, UNSOUND, POINT, accepted, refused, foundAnswer}
 use Rattle.ushanderi.specs.Promises.{Unfit, Fit, FindSays}

@@ -48,6 +48,13 @@ pub(crate) fn answered(number: i32, value: u64) -> Answer
     }
 }
 
+// The value of a refusal is 0 unless said.
+pub(crate) fn refused(number: i32) -> Answer
+    ensures { λ r. ⌜ r ≡ record { number = number; value = pos 0 } ⌝ }
+{
+    Answer { number, value: 0 }
+}
+
 pub(crate) fn done(value: u64) -> Answer
     requires { ⌜ value < 2 ^ 31 ⌝ }
     ensures { λ r. ⌜ r ≡ accepted value ⌝ }

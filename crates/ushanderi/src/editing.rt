@@ -14,6 +14,7 @@ use crate::answer::RECT;
 use crate::answer::SPACE;
 use crate::answer::answered;
 use crate::answer::done;
+use crate::answer::refused;
 use crate::entry::Entry;
 use crate::entry::admit;
 use crate::entry::entry_answer;
@@ -39,10 +40,7 @@ fn may_create(t: &[i32], from: usize, area: Area, label: u64, solids: usize) -> 
 {
     if seek::rect_right(area) {
         if label <= numbers::ZERO {
-            return MayCreate::Refused(Answer {
-                number: LABEL,
-                value: 0,
-            });
+            return MayCreate::Refused(refused(LABEL));
         }
         let s = seek::search(t, from, area.left, area.bottom, area.right, area.top);
         match s {
@@ -53,15 +51,9 @@ fn may_create(t: &[i32], from: usize, area: Area, label: u64, solids: usize) -> 
                 }
             }
         }
-        return MayCreate::Refused(Answer {
-            number: FULL,
-            value: 0,
-        });
+        return MayCreate::Refused(refused(FULL));
     }
-    MayCreate::Refused(Answer {
-        number: RECT,
-        value: 0,
-    })
+    MayCreate::Refused(refused(RECT))
 }
 
 // The act, where the decision lets it go on: the new solid's record. Free records are sought near the record `near`.
@@ -148,10 +140,7 @@ fn may_delete(t: &[i32], x: i32, y: i32) -> MayDelete
     if table::word(t, i, numbers::KIND) == numbers::SOLID {
         return MayDelete::Go(i);
     }
-    MayDelete::Refused(Answer {
-        number: SPACE,
-        value: 0,
-    })
+    MayDelete::Refused(refused(SPACE))
 }
 
 // The act: the label of the solid taken away.

@@ -5,6 +5,7 @@ use crate::answer::Answer;
 use crate::answer::SIZE;
 use crate::answer::UNSOUND;
 use crate::answer::done;
+use crate::answer::refused;
 
 pub(crate) enum Entry {
     Size,
@@ -34,14 +35,8 @@ pub(crate) fn entry_answer(e: Entry) -> Answer
     ensures { λ r. ⌜ r ≡ entryAnswer e ⌝ }
 {
     match e {
-        Entry::Size => Answer {
-            number: SIZE,
-            value: 0,
-        },
-        Entry::Unsound => Answer {
-            number: UNSOUND,
-            value: 0,
-        },
+        Entry::Size => refused(SIZE),
+        Entry::Unsound => refused(UNSOUND),
         Entry::Sound(solids) => done(solids as u64),
     }
 }

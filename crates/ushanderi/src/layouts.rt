@@ -12,6 +12,7 @@ use crate::answer::SHORT;
 use crate::answer::SIZE;
 use crate::answer::answered;
 use crate::answer::done;
+use crate::answer::refused;
 use crate::editing::Created;
 use crate::editing::create_one;
 use crate::entry::Entry;
@@ -91,16 +92,10 @@ pub fn load(t: &mut [i32], bytes: &[u8]) -> Answer
 {
     if table::size_right(t) {
         if bytes.len() % SAVED != 0 {
-            return Answer {
-                number: FILE,
-                value: 0,
-            };
+            return refused(FILE);
         }
         load_all(t, bytes)
     } else {
-        Answer {
-            number: SIZE,
-            value: 0,
-        }
+        refused(SIZE)
     }
 }

@@ -1,8 +1,9 @@
 // Fresh, check and view, each with its promise as its whole contract.
 ghost use Rattle.ushanderi.specs.Promises.{FreshSays, CheckSays, ViewSays};
 use crate::answer::Answer;
-use crate::answer::DONE;
 use crate::answer::SIZE;
+use crate::answer::done;
+use crate::answer::refused;
 use crate::entry::admit;
 use crate::entry::entry_answer;
 
@@ -11,15 +12,9 @@ pub fn fresh(t: &mut [i32]) -> Answer
 {
     if table::size_right(t) {
         table::fresh(t);
-        Answer {
-            number: DONE,
-            value: 0,
-        }
+        done(0)
     } else {
-        Answer {
-            number: SIZE,
-            value: 0,
-        }
+        refused(SIZE)
     }
 }
 

@@ -21,6 +21,7 @@ use crate::answer::SIZE;
 use crate::answer::UNSOUND;
 use crate::answer::answered;
 use crate::answer::done;
+use crate::answer::refused;
 use crate::entry::Entry;
 use crate::entry::admit;
 use crate::entry::entry_answer;
@@ -67,18 +68,9 @@ pub(crate) fn found_answer(f: Found) -> Answer
 {
     match f {
         Found::At(i) => done(i as u64),
-        Found::Size => Answer {
-            number: SIZE,
-            value: 0,
-        },
-        Found::Unsound => Answer {
-            number: UNSOUND,
-            value: 0,
-        },
-        Found::Point => Answer {
-            number: POINT,
-            value: 0,
-        },
+        Found::Size => refused(SIZE),
+        Found::Unsound => refused(UNSOUND),
+        Found::Point => refused(POINT),
     }
 }
 
@@ -120,10 +112,7 @@ pub fn neighbours(t: &[i32], x: i32, y: i32, side: i32, out: &mut [i32]) -> Answ
     if is_side(s) {
         list_side(t, i, (s - ZERO) as usize, out)
     } else {
-        Answer {
-            number: SIDE,
-            value: 0,
-        }
+        refused(SIDE)
     }
 }
 
@@ -167,10 +156,7 @@ pub fn search(t: &[i32], left: i32, bottom: i32, right: i32, top: i32) -> Answer
     if seek::rect_right(a) {
         search_in(t, a)
     } else {
-        Answer {
-            number: RECT,
-            value: 0,
-        }
+        refused(RECT)
     }
 }
 
@@ -202,9 +188,6 @@ pub fn enumerate(t: &[i32], left: i32, bottom: i32, right: i32, top: i32, out: &
     if seek::rect_right(a) {
         enumerate_in(t, a, out)
     } else {
-        Answer {
-            number: RECT,
-            value: 0,
-        }
+        refused(RECT)
     }
 }

@@ -1,5 +1,4 @@
 -- `ushanderi::editing::may_create` meets its contract, check by check. Assumes nothing.
-use mathlib.Core.Path.{refl}
 use native.Mathlib.Omega.{arith}
 use Rattle.geometry.specs.Cases.{yes, no}
 use Rattle.seek.specs.Search.{searches-free, searches-met}
@@ -14,11 +13,14 @@ use Rattle.ushanderi.proofs.editing.may_create.Tie as tie
 rect-right-requires : tie.Need-rect-right-requires
 rect-right-requires c κs = search needs
 
+refused-requires : tie.Need-refused-requires
+refused-requires c κs = search needs
+
 returns : tie.Need-returns
 returns c =
-    let k = c .before in
+    let k = c .before .before in
     let s = k .before .before in
-    CreateRefuses.label (s .pre .fit) (yes (k .before .rect-right .ensures) (k .if1 .taken)) (c .if2 .taken) refl
+    CreateRefuses.label (s .pre .fit) (yes (k .before .rect-right .ensures) (k .if1 .taken)) (c .before .if2 .taken) (c .refused .ensures)
 
 search-requires : tie.Need-search-requires
 search-requires c κs =
@@ -68,25 +70,32 @@ returns-3 c =
       },
     )
 
+refused-requires-2 : tie.Need-refused-requires-2
+refused-requires-2 c κs = search needs
+
 returns-4 : tie.Need-returns-4
 returns-4 c =
-    let n = c .before .before .before in
+    let n = c .before .before .before .before in
     let r = n .before .before in
     let l = r .before in
     let k = l .before in
     let s = k .before .before in
     CreateRefuses.full (s .pre .fit) (yes (k .before .rect-right .ensures) (k .if1 .taken)) (l .if2 .left)
     (searches-free _ _ _ _ (r .search .ensures) (n .s2 .given .1) .0)
-    (at-capacity _ (s .pre .fit) (omega (arith, s .pre .number, c .before .capacity .ensures, c .if3 .left))) refl
+    (at-capacity _ (s .pre .fit) (omega (arith, s .pre .number, c .before .before .capacity .ensures, c .before .if3 .left))) (c .refused2 .ensures)
+
+refused-requires-3 : tie.Need-refused-requires-3
+refused-requires-3 c κs = search needs
 
 returns-5 : tie.Need-returns-5
-returns-5 c = CreateRefuses.rect (c .before .before .pre .fit) (no (c .before .rect-right .ensures) (c .if1 .left)) refl
+returns-5 c = CreateRefuses.rect (c .before .before .before .pre .fit) (no (c .before .before .rect-right .ensures) (c .before .if1 .left)) (c .refused3 .ensures)
 
 pub may-create-spec : {M : Type 1} → statement M
 may-create-spec =
     tie.close
     (tie.spec
     rect-right-requires
+    refused-requires
     returns
     search-requires
     enum-known-s
@@ -95,5 +104,7 @@ may-create-spec =
     enum-known-s-2
     capacity-requires
     returns-3
+    refused-requires-2
     returns-4
+    refused-requires-3
     returns-5)

@@ -1,5 +1,5 @@
 -- `ushanderi::editing::may_delete` meets its contract: a find's refusal goes out unchanged; SPACE where the tile is no solid. Assumes nothing.
-use mathlib.Core.Path.{refl, sym, ap, _∙_, subst}
+use mathlib.Core.Path.{sym, ap, _∙_, subst}
 use native.Mathlib.Omega.{arith}
 use denote.Enum.Declared.{tagOf}
 use Rattle.ushanderi.specs.Promises.{DeleteRefuses}
@@ -42,14 +42,17 @@ returns-2 c =
     let (f, h) = find-at _ _ _ _ _ (find-bits _ _ _ _ (s .fits .x) (s .fits .y) (g .find .ensures)) (k .f .given .1) in
     delete-allows _ _ _ _ f h (sym (w .word .ensures .is) ∙ c .if1 .taken)
 
+refused-requires : tie.Need-refused-requires
+refused-requires c κs = search needs
+
 returns-3 : tie.Need-returns-3
 returns-3 c =
-    let w = c .before in
+    let w = c .before .before in
     let k = w .before .before in
     let g = k .before .before in
     let s = g .before in
     let (f, h) = find-at _ _ _ _ _ (find-bits _ _ _ _ (s .fits .x) (s .fits .y) (g .find .ensures)) (k .f .given .1) in
-    DeleteRefuses.space f _ h (is-space _ _ f (h .used) (λ e. c .if1 .left (w .word .ensures .is ∙ e))) refl
+    DeleteRefuses.space f _ h (is-space _ _ f (h .used) (λ e. c .before .if1 .left (w .word .ensures .is ∙ e))) (c .refused .ensures)
 
 pub may-delete-spec : {M : Type 1} → statement M
 may-delete-spec =
@@ -61,4 +64,5 @@ may-delete-spec =
     returns
     word-requires
     returns-2
+    refused-requires
     returns-3)

@@ -12,10 +12,13 @@ size-right-requires c κs = search needs
 same-length : tie.Need-same-length
 same-length c = search needs
 
+refused-requires : tie.Need-refused-requires
+refused-requires c κs = search needs
+
 returns : tie.Need-returns
 returns c =
-    let k = c .before in
-    LoadSays.file (yes (k .before .size-right .ensures) (k .if1 .taken)) (c .if2 .taken) refl refl
+    let k = c .before .before in
+    LoadSays.file (yes (k .before .size-right .ensures) (k .if1 .taken)) (c .before .if2 .taken) (c .refused .ensures) refl
 
 load-all-requires : tie.Need-load-all-requires
 load-all-requires c κs =
@@ -31,17 +34,22 @@ returns-2 c = search needs
 same-length-3 : tie.Need-same-length-3
 same-length-3 c = search needs
 
+refused-requires-2 : tie.Need-refused-requires-2
+refused-requires-2 c κs = search needs
+
 returns-3 : tie.Need-returns-3
-returns-3 c = LoadSays.size (no (c .before .size-right .ensures) (c .if1 .left)) refl refl
+returns-3 c = LoadSays.size (no (c .before .before .size-right .ensures) (c .before .if1 .left)) (c .refused2 .ensures) refl
 
 pub load-spec : {M : Type 1} → statement M
 load-spec =
     tie.close
     (tie.spec
     size-right-requires
+    refused-requires
     same-length
     returns
     load-all-requires
+    refused-requires-2
     same-length-2
     returns-2
     same-length-3

@@ -49,14 +49,17 @@ returns-2 c =
     let e = a .area .ensures ∙ area-bits _ _ _ _ (s .fits .left) (s .fits .bottom) (s .fits .right) (s .fits .top) in
     enumerate-same e (c .before .enumerate-in .ensures)
 
+refused-requires : tie.Need-refused-requires
+refused-requires c κs = search needs
+
 returns-3 : tie.Need-returns-3
 returns-3 c =
-    let a = c .before .before in
+    let a = c .before .before .before in
     let k = a .before in
     let s = k .before .before .before in
     let e = a .area .ensures ∙ area-bits _ _ _ _ (s .fits .left) (s .fits .bottom) (s .fits .right) (s .fits .top) in
     let (f, _) = admits-fit _ _ _ (k .before .before .admit .ensures) (k .enum-told .given .1) in
-    EnumerateSays.rect f (λ r. no (c .before .rect-right .ensures) (c .if1 .left) (subst RectRight (sym e) r)) refl refl
+    EnumerateSays.rect f (λ r. no (c .before .before .rect-right .ensures) (c .before .if1 .left) (subst RectRight (sym e) r)) (c .refused .ensures) refl
 
 pub enumerate-spec : {M : Type 1} → statement M
 enumerate-spec =
@@ -69,6 +72,7 @@ enumerate-spec =
     area-requires
     rect-right-requires
     enumerate-in-requires
+    refused-requires
     same-length
     returns-2
     returns-3)

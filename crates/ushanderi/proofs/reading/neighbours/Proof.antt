@@ -58,15 +58,18 @@ returns-2 c =
     let r = yes (n .is-side .ensures) (c .before .before .before .if1 .taken) in
     side-neighbours _ _ _ _ _ _ _ _ _ f (side-is _ _ e r) h (c .before .list-side .ensures)
 
+refused-requires : tie.Need-refused-requires
+refused-requires c κs = search needs
+
 returns-3 : tie.Need-returns-3
 returns-3 c =
-    let n = c .before in
+    let n = c .before .before in
     let k = n .before .before .before in
     let g = k .before .before in
     let s = g .before in
     let (f, h) = find-at _ _ _ _ _ (find-bits _ _ _ _ (s .fits .x) (s .fits .y) (g .find .ensures)) (k .f .given .1) in
     let e = n .before .at .ensures .is ∙ ruler-bits (s .args .side) (s .fits .side) in
-    NeighboursSays.side f (finds-in-plane _ (fit-forms _ f) _ _ _ h) (side-not _ _ e (no (n .is-side .ensures) (c .if1 .left))) refl refl
+    NeighboursSays.side f (finds-in-plane _ (fit-forms _ f) _ _ _ h) (side-not _ _ e (no (n .is-side .ensures) (c .before .if1 .left))) (c .refused .ensures) refl
 
 pub neighbours-spec : {M : Type 1} → statement M
 neighbours-spec =
@@ -80,6 +83,7 @@ neighbours-spec =
     is-side-requires
     sub-list-side
     list-side-requires
+    refused-requires
     same-length
     returns-2
     returns-3)

@@ -1,5 +1,5 @@
 -- `ushanderi::reading::search` meets its promise: where the checks refuse, what they say; else what `search_in` gives. Assumes nothing.
-use mathlib.Core.Path.{refl, sym, ap, _∙_, subst}
+use mathlib.Core.Path.{sym, ap, _∙_, subst}
 use denote.Enum.Declared.{tagOf}
 use Rattle.geometry.specs.Cases.{yes, no}
 use Rattle.seek.specs.Meaning.{RectRight}
@@ -46,14 +46,17 @@ returns-2 c =
     let e = a .area .ensures ∙ area-bits _ _ _ _ (s .fits .left) (s .fits .bottom) (s .fits .right) (s .fits .top) in
     search-same e (c .search-in .ensures)
 
+refused-requires : tie.Need-refused-requires
+refused-requires c κs = search needs
+
 returns-3 : tie.Need-returns-3
 returns-3 c =
-    let a = c .before .before in
+    let a = c .before .before .before in
     let k = a .before in
     let s = k .before .before .before in
     let e = a .area .ensures ∙ area-bits _ _ _ _ (s .fits .left) (s .fits .bottom) (s .fits .right) (s .fits .top) in
     let (f, _) = admits-fit _ _ _ (k .before .before .admit .ensures) (k .enum-told .given .1) in
-    SearchSays.rect f (λ r. no (c .before .rect-right .ensures) (c .if1 .left) (subst RectRight (sym e) r)) refl
+    SearchSays.rect f (λ r. no (c .before .before .rect-right .ensures) (c .before .if1 .left) (subst RectRight (sym e) r)) (c .refused .ensures)
 
 pub search-spec : {M : Type 1} → statement M
 search-spec =
@@ -66,5 +69,6 @@ search-spec =
     area-requires
     rect-right-requires
     search-in-requires
+    refused-requires
     returns-2
     returns-3)

@@ -35,7 +35,7 @@ fn low(n: u64) -> u8
 }
 
 // The word at byte `at`.
-pub fn word_at(bytes: &[u8], at: usize) -> u64
+fn word_at(bytes: &[u8], at: usize) -> u64
     requires { ⌜ at + 4 ≤ length (now bytes) ⌝ }
     ensures { λ r. ⌜ WordAt (now (bytes .entry)) at r ⌝ }
 {
@@ -46,7 +46,7 @@ pub fn word_at(bytes: &[u8], at: usize) -> u64
     (a + 256 * b + 65536 * c + 16777216 * d + ZERO) % WORDS
 }
 
-pub fn put_word(out: &mut [u8], at: usize, w: u64)
+fn put_word(out: &mut [u8], at: usize, w: u64)
     requires { ⌜ at + 4 ≤ length (now out) ⌝ }
     requires { ⌜ w < 2 ^ 32 ⌝ }
     ensures { λ _. ⌜ now (out .exit) ≡ patch (now (out .entry)) at (bytesOf w) ⌝ }
@@ -73,7 +73,7 @@ pub fn read_saved(bytes: &[u8], n: usize) -> Saved
     }
 }
 
-pub fn put_saved(out: &mut [u8], n: usize, s: Saved)
+pub(crate) fn put_saved(out: &mut [u8], n: usize, s: Saved)
     requires { ⌜ SAVED * n + SAVED ≤ length (now out) ⌝ }
     requires { ⌜ SavedFits s ⌝ }
     ensures { λ _. ⌜ now (out .exit) ≡ patch (now (out .entry)) (SAVED * n) (recordBytes s) ⌝ }

@@ -4,8 +4,5 @@ mod saving;
 
 pub use bytes::SAVED;
 pub use bytes::Saved;
-pub use bytes::put_saved;
-pub use bytes::put_word;
 pub use bytes::read_saved;
-pub use bytes::word_at;
 pub use saving::save;

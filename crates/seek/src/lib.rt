@@ -18,5 +18,3 @@ pub use first::start;
 pub use neighbours::count_side;
 pub use neighbours::list_side;
 pub use rect::rect_right;
-pub use side::Walk;
-pub use side::along;

@@ -24,7 +24,7 @@ const TURN: u64 = LOW + HIGH;
 
 // The words that a walk along one side reads: the stitch that it starts with, the one that it goes on by, the number that it compares with
 // where to stop, and the tile's own edge. On two sides the numbers rise along the walk.
-pub struct SideWords {
+pub(crate) struct SideWords {
     pub start: usize,
     pub next: usize,
     pub edge: usize,
@@ -84,7 +84,7 @@ fn seen(t: &[i32], i: usize, k: usize, rises: bool) -> u64
 }
 
 // A walk: while there is `more`, it stands at the neighbour `at`. It stops where a tile reaches the number `stop`.
-pub struct Walk {
+pub(crate) struct Walk {
     pub at: usize,
     pub more: bool,
     pub stop: u64,
@@ -94,7 +94,7 @@ pub struct Walk {
 }
 
 // The walk along side `side` of tile i, at its first neighbour.
-pub fn along(t: &[i32], i: usize, side: usize) -> Walk
+pub(crate) fn along(t: &[i32], i: usize, side: usize) -> Walk
     requires { ⌜ Forms (now t) ⌝ }
     requires { ⌜ SizeRight (now t) ⌝ }
     requires { ⌜ UsedIn (now t) i ⌝ }

@@ -15,7 +15,7 @@ use Rattle.seek.specs.Meaning.{Area, InArea, RectRight}
 use Rattle.layout.specs.Bytes.{savedAt, SAVED}
 use Rattle.ushanderi.specs.declared.answer.Answer.{Answer}
 use Rattle.ushanderi.specs.Promises.{CreateDone, areaIn, Built, CreateRefuses}
-use Rattle.ushanderi.specs.Answers.{DONE, accepted, refused, answered}
+use Rattle.ushanderi.specs.Answers.{DONE, accepted, answered}
 
 -- some record of t is the solid w
 pub record Shows (t : List ℤ) (w : Tile) : Type 0 where

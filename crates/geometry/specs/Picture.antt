@@ -132,5 +132,6 @@ pub record Holder (R : ℕ) (tile : ℕ → Tile) (x y : ℕ) : Type 0 where
   pub has : Has (tile number) x y
   pub only : (j : ℕ) → Used R tile j → Has (tile j) x y → j ≡ number
 
+-- the four sides of a tile
 pub data Side : Type 0 where
   top right bottom left : Side

@@ -7,7 +7,7 @@ use lib.Dec.{ltb, ltb→lt, lt→ltb}
 use lib.IntN.{ℤ, pos, negsuc, _+ℤ_, _-ℤ_}
 use lib.Signed.{_<ℤ_, ltZ-yes}
 use borrow.Author.Tests.{lt-ltb, le-ltb, ltb-true, ltb-false}
-use mir.Syntax.{w32}
+use mir.Syntax.{w32, w64}
 use mir.Val.{SFits, toZ, ofZ}
 use mir.Facts.{toZ-ofZ}
 
@@ -104,6 +104,16 @@ plus-whole (negsuc n) f =
     ap (λ (b : Bool). cond b (negsuc (suc n - 4294967297)) (pos (4294967296 - suc n))) (le-ltb 4294967296 (suc n) (omega arith))
     ∙ ap pos (omega arith)
 
+-- a word as a length: itself, and 0 where it is below 0
+unfoldable pub lengthOf : ℤ → ℕ
+lengthOf (pos n) = n
+lengthOf (negsuc n) = 0
+
+pub length-ruler : (x : ℤ) → lengthOf x ≡ ruler x - 2147483648
+unfolding lengthOf ruler
+length-ruler (pos n) = omega arith
+length-ruler (negsuc n) = omega arith
+
 -- what `at` gives
 pub record AtIs (x : ℤ) (r : ℕ) : Type 0 where
   pub is : r ≡ ruler x
@@ -125,3 +135,10 @@ pos-ruler (negsuc n) h = absurd (omega arith)
 
 pub count-bits : (n : ℕ) (r : ℤ) → r ≡ pos n → n < 2 ^ 31 → toZ w32 (ofZ w32 r) ≡ pos n
 count-bits n r e h = ap (λ z. toZ w32 (ofZ w32 z)) e ∙ toZ-ofZ {w = w32} (record { sfits = h })
+
+-- the same in 64 bits
+pub long-bits : (n : ℕ) (r : ℤ) → r ≡ pos n → n < 2 ^ 63 → toZ w64 (ofZ w64 r) ≡ pos n
+long-bits n r e h = ap (λ z. toZ w64 (ofZ w64 z)) e ∙ toZ-ofZ {w = w64} (record { sfits = h })
+
+pub length-bits : (x : ℤ) → SFits w32 x → lengthOf (toZ w32 (ofZ w32 x)) ≡ lengthOf x
+length-bits x f = ap lengthOf (toZ-ofZ f)

@@ -2,7 +2,7 @@
 ghost use mathlib.Core.Path.{_≡_};
 ghost use Prim.Native.Nat.{_<_, _^_};
 ghost use lib.IntN.{pos};
-ghost use Rattle.ruler.specs.Ruler.{AtIs, bits, ruler, word};
+ghost use Rattle.ruler.specs.Ruler.{AtIs, bits, lengthOf, ruler, word};
 
 pub fn at(x: i32) -> u64
     ensures { λ r. ⌜ AtIs x r ⌝ }
@@ -33,4 +33,23 @@ pub fn count(n: u64) -> i32
     ensures { λ r. ⌜ r ≡ pos n ⌝ }
 {
     n as i32
+}
+
+// A count as a word of 64 bits.
+pub fn long_count(n: u64) -> i64
+    requires { ⌜ n < 2 ^ 63 ⌝ }
+    ensures { λ r. ⌜ r ≡ pos n ⌝ }
+{
+    n as i64
+}
+
+// A word as a length.
+pub fn length(x: i32) -> u64
+    ensures { λ r. ⌜ r ≡ lengthOf x ⌝ }
+{
+    let n = at(x);
+    if n < 2147483648 {
+        return 0;
+    }
+    n - 2147483648
 }

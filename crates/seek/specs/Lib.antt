@@ -11,6 +11,7 @@ pub mod Lists
 pub mod Hanging
 pub mod Once
 pub mod Order
+pub mod Each
 pub mod Writing
 pub mod Enumerate
 pub mod Trees

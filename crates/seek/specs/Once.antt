@@ -193,6 +193,9 @@ module _ (t : List ℤ) (f : Forms t) (A : Area) where
   trees-once : (ks w : List ℕ) → Trees t A ks w → Once-each ks w
   trees-once = trees-induction t A Once Once-each once-tree once-none once-more
 
+  pub directed-once : (w : List ℕ) → Directed t A w → (k : ℕ) → times k w ≤ 1
+  directed-once w d = trees-once (d .roots) w (d .trees) (lists-separate (Root t A) (roots-level t f A) (d .roots) (d .are))
+
   -- ---- so the list is short
 
   pub tree-short : (p : ℕ) (w : List ℕ) → UsedIn t p → Tree t A p w → length w ≤ recordsOf t

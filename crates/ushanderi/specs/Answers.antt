@@ -1,4 +1,4 @@
--- 01's table of answers: each number by its name, and what an answer carries. Assumes nothing.
+-- 01's and 02's tables of answers: each number by its name, and what an answer carries. Assumes nothing.
 use Prim.Native.Nat.{ℕ}
 use lib.IntN.{pos, negsuc, ℤ}
 use Rattle.ushanderi.specs.declared.answer.Answer.{Answer}
@@ -6,6 +6,9 @@ use Rattle.seek.specs.Meaning.{Area}
 use Rattle.ushanderi.specs.declared.reading.Found.the-variants.{At, Point, Size, Unsound}
 use Rattle.ushanderi.specs.declared.reading.Found.{Found}
 use Rattle.ruler.specs.Ruler.{ruler}
+use Rattle.density.specs.Shares.{float}
+use Rattle.density.specs.declared.windows.Report.{Report}
+use Rattle.ushanderi.specs.declared.reports.DensityAnswer.{DensityAnswer}
 
 abbrev pub DONE : ℕ
 DONE = 0
@@ -46,6 +49,9 @@ FILE = 11
 abbrev pub ROOM : ℕ
 ROOM = 12
 
+abbrev pub STEP : ℕ
+STEP = 13
+
 abbrev pub answered : ℕ → ℕ → Answer
 answered number value = record { number = pos number; value = pos value }
 
@@ -59,6 +65,15 @@ refused number = answered number 0
 -- area search's value where the rectangle is free: -1
 abbrev pub nothing : Answer
 nothing = record { number = pos DONE; value = negsuc 0 }
+
+-- density's answer: the number of windows, and the report
+abbrev pub reported : ℕ → Report → DensityAnswer
+reported windows r =
+    record { number = pos DONE; value = pos windows; lowest = r .lowest; highest = r .highest; covered = pos (r .covered) }
+
+-- a refused report has both shares 0.0 and the total 0
+abbrev pub unreported : Answer → DensityAnswer
+unreported a = record { number = a .number; value = a .value; lowest = float 0; highest = float 0; covered = pos 0 }
 
 -- the number and the value of each case of a find
 abbrev pub foundAnswer : Found → Answer

@@ -6,5 +6,6 @@ pub mod Entry
 pub mod Reading
 pub mod ReadingSides
 pub mod ReadingAreas
+pub mod Reports
 pub mod Editing
 pub mod Layouts

@@ -4,6 +4,7 @@ use mathlib.Core.Logic.{_≢_}
 use mathlib.Core.List.{List, _++_, map}
 use Prim.Native.Nat.{ℕ, _+_, _*_, _/_, _%_, _≤_, _<_}
 use lib.IntN.{ℤ, pos}
+use lib.Ieee.{Float}
 use lib.ListN.{length, drop}
 use denote.Ref.{now}
 use Rattle.geometry.specs.Picture.{ZERO, InPlane}
@@ -14,10 +15,14 @@ use Rattle.table.specs.View.{Places, Slice, IsPart}
 use Rattle.seek.specs.Meaning.{Area, RectRight, FreeArea, First, Lists, Directed}
 use Rattle.seek.specs.Find.{Finds}
 use Rattle.seek.specs.Neighbours.{IsSide, sideOf, Neighbours}
+use Rattle.density.specs.Meaning.{Steps, windowsOf}
+use Rattle.density.specs.Report.{Reports}
+use Rattle.density.specs.declared.windows.Report.{Report}
 use Rattle.layout.specs.Bytes.{savedAt, SAVED}
 use Rattle.layout.specs.Order.{Comes, Saves}
-use Rattle.ushanderi.specs.Answers.{SIZE, UNSOUND, POINT, RECT, LABEL, OCCUPIED, FULL, SPACE, SIDE, SHORT, FILE, ROOM, answered, accepted, refused, nothing}
+use Rattle.ushanderi.specs.Answers.{SIZE, UNSOUND, POINT, RECT, LABEL, OCCUPIED, FULL, SPACE, SIDE, SHORT, FILE, ROOM, STEP, answered, accepted, refused, nothing, reported, unreported}
 use Rattle.ushanderi.specs.declared.answer.Answer.{Answer}
+use Rattle.ushanderi.specs.declared.reports.DensityAnswer.{DensityAnswer}
 use Rattle.ushanderi.specs.Edits.{drawn, Adds, Removes, Edited, labelIn, NoRoom}
 
 -- The checks 1 and 2, which every call but fresh, view and load runs first.
@@ -81,6 +86,16 @@ pub data EnumerateSays (t : List ℤ) (A : Area) (out out′ : List ℤ) (a : An
       → EnumerateSays t A out out′ a
   done : Fit t → RectRight A → (ks : List ℕ) → Directed t A ks → length ks ≤ length out → a ≡ accepted (length ks) → out′ ≡ listed ks out
       → EnumerateSays t A out out′ a
+
+-- Density of the windows of width w and height h: 1, 2, 4, 13, 10. Value, and SHORT's value too: the number of windows.
+pub data DensitySays (t : List ℤ) (A : Area) (w h : ℕ) (out out′ : List Float) (a : DensityAnswer) : Type 0 where
+  unfit : (b : Answer) → Unfit t b → a ≡ unreported b → out′ ≡ out → DensitySays t A w h out out′ a
+  rect : Fit t → (RectRight A → ⊥) → a ≡ unreported (refused RECT) → out′ ≡ out → DensitySays t A w h out out′ a
+  step : Fit t → RectRight A → (Steps A w h → ⊥) → a ≡ unreported (refused STEP) → out′ ≡ out → DensitySays t A w h out out′ a
+  short : Fit t → RectRight A → Steps A w h → length out < windowsOf A w h → a ≡ unreported (answered SHORT (windowsOf A w h)) → out′ ≡ out
+      → DensitySays t A w h out out′ a
+  done : Fit t → RectRight A → Steps A w h → windowsOf A w h ≤ length out → (r : Report) → Reports t A w h out out′ r → a ≡ reported (windowsOf A w h) r
+      → DensitySays t A w h out out′ a
 
 -- Create: 1, 2, 4, 5, 6, 7. Value: the new solid's record. OCCUPIED's value: the record that area search gives.
 pub data CreateRefuses (t : List ℤ) (A : Area) (label : ℕ) (a : Answer) : Type 0 where

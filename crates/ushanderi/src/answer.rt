@@ -34,6 +34,8 @@ pub(crate) const SHORT: i32 = 10;
 
 pub(crate) const FILE: i32 = 11;
 
+pub(crate) const STEP: i32 = 13;
+
 // Area search's value where the rectangle is free.
 pub(crate) const NOTHING: i32 = -1;
 

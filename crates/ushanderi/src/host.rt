@@ -1,13 +1,15 @@
 // The same calls by C names: each does what the call of its name does, and its contract is that call's promise.
-ghost use Rattle.ruler.specs.Ruler.{ruler};
+ghost use Rattle.ruler.specs.Ruler.{lengthOf, ruler};
 ghost use Rattle.table.specs.View.{Places};
-ghost use Rattle.ushanderi.specs.Promises.{FreshSays, CheckSays, FindSays, NeighboursSays, SearchSays, EnumerateSays, CreateSays, DeleteSays, SaveSays, LoadSays};
+ghost use Rattle.ushanderi.specs.Promises.{FreshSays, CheckSays, FindSays, NeighboursSays, SearchSays, EnumerateSays, DensitySays, CreateSays, DeleteSays, SaveSays, LoadSays};
 ghost use Rattle.ushanderi.specs.Answers.{rulerArea};
 use crate::answer::Answer;
 use crate::editing;
 use crate::layouts;
 use crate::plane;
 use crate::reading;
+use crate::reports;
+use crate::reports::DensityAnswer;
 use table::Part;
 
 #[no_mangle]
@@ -66,6 +68,22 @@ pub extern "C" fn ush_enumerate(
     ensures { λ r. ⌜ EnumerateSays (now (t .entry)) (rulerArea left bottom right top) (now (out .entry)) (now (out .exit)) r ⌝ }
 {
     reading::enumerate(t, left, bottom, right, top, out)
+}
+
+#[no_mangle]
+pub extern "C" fn ush_density(
+    t: &[i32],
+    left: i32,
+    bottom: i32,
+    right: i32,
+    top: i32,
+    width: i32,
+    height: i32,
+    out: &mut [f64],
+) -> DensityAnswer
+    ensures { λ r. ⌜ DensitySays (now (t .entry)) (rulerArea left bottom right top) (lengthOf width) (lengthOf height) (now (out .entry)) (now (out .exit)) r ⌝ }
+{
+    reports::density(t, left, bottom, right, top, width, height, out)
 }
 
 #[no_mangle]

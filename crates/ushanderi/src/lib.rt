@@ -6,3 +6,4 @@ pub mod host;
 pub mod layouts;
 pub mod plane;
 pub mod reading;
+pub mod reports;

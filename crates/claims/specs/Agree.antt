@@ -5,12 +5,15 @@ use mathlib.Core.Path.{_≡_}
 use mathlib.Core.List.{List}
 use Prim.Native.Nat.{ℕ}
 use lib.IntN.{ℤ}
+use lib.Ieee.{Float}
 use denote.Ref.{now}
 use Rattle.table.specs.View.{Places, Slice, IsPart}
 use Rattle.seek.specs.Meaning.{Area}
 use Rattle.ushanderi.specs.declared.answer.Answer.{Answer}
-use Rattle.ushanderi.specs.Promises.{Fit, FreshSays, CheckSays, ViewSays, FindSays, NeighboursSays, SearchSays, EnumerateSays, CreateSays, DeleteSays, SaveSays, LoadSays}
+use Rattle.ushanderi.specs.declared.reports.DensityAnswer.{DensityAnswer}
+use Rattle.ushanderi.specs.Promises.{Fit, FreshSays, CheckSays, ViewSays, FindSays, NeighboursSays, SearchSays, EnumerateSays, DensitySays, CreateSays, DeleteSays, SaveSays, LoadSays}
 use Rattle.claims.specs.AgreeReads.{fresh-agrees, check-agrees, places-agree, view-placed, view-agrees, find-agrees, neighbours-agrees, search-agrees, enumerate-agrees, save-agrees}
+use Rattle.claims.specs.AgreeReports.{density-agrees}
 use Rattle.claims.specs.AgreePicture.{space-agrees}
 use Rattle.claims.specs.AgreeCreate.{create-agrees}
 use Rattle.claims.specs.AgreeDelete.{delete-agrees}
@@ -30,6 +33,8 @@ pub record Agreement : Type 0 where
   pub search : (t : List ℤ) (A : Area) (a b : Answer) → SearchSays t A a → SearchSays t A b → a ≡ b
   pub enumerate : (t : List ℤ) (A : Area) (out u v : List ℤ) (a b : Answer)
       → EnumerateSays t A out u a → EnumerateSays t A out v b → (a ≡ b) × (u ≡ v)
+  pub density : (t : List ℤ) (A : Area) (w h : ℕ) (out u v : List Float) (a b : DensityAnswer)
+      → DensitySays t A w h out u a → DensitySays t A w h out v b → (a ≡ b) × (u ≡ v)
   pub create : (t : List ℤ) (A : Area) (label : ℕ) (u v : List ℤ) (a b : Answer)
       → CreateSays t A label u a → CreateSays t A label v b → CreateAgrees t u v a b
   pub delete : (t : List ℤ) (x y : ℕ) (u v : List ℤ) (a b : Answer) → DeleteSays t x y u a → DeleteSays t x y v b → DeleteAgrees u v a b
@@ -50,6 +55,7 @@ agreement =
       neighbours = neighbours-agrees;
       search = search-agrees;
       enumerate = enumerate-agrees;
+      density = density-agrees;
       create = create-agrees;
       delete = delete-agrees;
       save = save-agrees;

@@ -6,6 +6,7 @@ use mathlib.Core.Bool.{Bool, true, false, _&&_}
 use mathlib.Core.List.{List, [], _∷_, List·Memᴰ}
 use Prim.Native.Nat.{ℕ, zero, suc, _+_, _*_, _/_, _≤_, _<_, _^_}
 use lib.IntN.{ℤ, pos}
+use lib.Ieee.{Float}
 use lib.ListN.{length, getD}
 use lib.Dec.{leb, ltb}
 use denote.Ref.{now}
@@ -17,8 +18,9 @@ use Rattle.seek.specs.Meaning.{Area}
 use Rattle.layout.specs.Bytes.{savedAt, SAVED}
 use Rattle.ushanderi.specs.Answers.{DONE, SIZE, FILE}
 use Rattle.ushanderi.specs.declared.answer.Answer.{Answer}
+use Rattle.ushanderi.specs.declared.reports.DensityAnswer.{DensityAnswer}
 use Rattle.ushanderi.specs.Edits.{drawn}
-use Rattle.ushanderi.specs.Promises.{FreshSays, CheckSays, ViewSays, FindSays, NeighboursSays, SearchSays, EnumerateSays, CreateRefuses, CreateDone, DeleteRefuses, DeleteDone, SaveSays, areaIn, LoadStops, LoadSays}
+use Rattle.ushanderi.specs.Promises.{FreshSays, CheckSays, ViewSays, FindSays, NeighboursSays, SearchSays, EnumerateSays, DensitySays, CreateRefuses, CreateDone, DeleteRefuses, DeleteDone, SaveSays, areaIn, LoadStops, LoadSays}
 use Rattle.claims.specs.Terms.{Shows, Tiles}
 
 -- ---- the account
@@ -80,6 +82,7 @@ pub data Step (t : List ℤ) (S : List Tile) : List ℤ → List Tile → Type 0
   neighbours : {x y : ℕ} {side : ℤ} {out out′ : List ℤ} {a : Answer} → NeighboursSays t x y side out out′ a → Step t S t S
   search : {A : Area} {a : Answer} → SearchSays t A a → Step t S t S
   enumerate : {A : Area} {out out′ : List ℤ} {a : Answer} → EnumerateSays t A out out′ a → Step t S t S
+  density : {A : Area} {w h : ℕ} {out out′ : List Float} {a : DensityAnswer} → DensitySays t A w h out out′ a → Step t S t S
   save : {out out′ : List ℕ} {a : Answer} → SaveSays t out out′ a → Step t S t S
 
 pub data History : List ℤ → List Tile → Type 0 where

@@ -155,6 +155,7 @@ step-shown t t′ S S′ k (Step.find c) = k
 step-shown t t′ S S′ k (Step.neighbours c) = k
 step-shown t t′ S S′ k (Step.search c) = k
 step-shown t t′ S S′ k (Step.enumerate c) = k
+step-shown t t′ S S′ k (Step.density c) = k
 step-shown t t′ S S′ k (Step.save c) = k
 
 history-shown : (t : List ℤ) (S : List Tile) → History t S → Shown t S

@@ -3,6 +3,7 @@ pub mod Terms
 pub mod Drawing
 pub mod AgreeChecks
 pub mod AgreeReads
+pub mod AgreeReports
 pub mod AgreePicture
 pub mod Pictures
 pub mod AgreeTables
@@ -10,6 +11,7 @@ pub mod AgreeCreate
 pub mod AgreeDelete
 pub mod AgreeLoad
 pub mod Agree
+pub mod Density
 pub mod History
 pub mod HistoryAccount
 pub mod HistoryCalls

@@ -5,6 +5,7 @@ use mathlib.Core.List.{List, _∷_, List·Memᴰ·head, List·Memᴰ·tail, List
 use Prim.Native.Nat.{ℕ, _*_, _/_, _%_, _≤_, _<_}
 use native.Mathlib.Omega.{arith}
 use lib.IntN.{ℤ, pos, negsuc}
+use lib.Ieee.{Float}
 use lib.ListN.{length}
 use denote.Ref.{now}
 use Rattle.ruler.specs.Ruler.{ruler}
@@ -19,10 +20,12 @@ use Rattle.table.specs.FreshSound.{fresh-length}
 use Rattle.seek.specs.Meaning.{Area, InArea, RectRight, FreeArea, Directed}
 use Rattle.seek.specs.Find.{Finds}
 use Rattle.seek.specs.Neighbours.{sideOf, Neighbours}
+use Rattle.density.specs.Meaning.{Steps, windowsOf}
 use Rattle.layout.specs.Bytes.{SAVED}
 use Rattle.ushanderi.specs.Answers.{DONE, SIZE, UNSOUND, RECT, SHORT, answered, accepted, nothing}
 use Rattle.ushanderi.specs.declared.answer.Answer.{Answer}
-use Rattle.ushanderi.specs.Promises.{Unfit, Fit, FreshSays, CheckSays, ViewSays, FindSays, listed, NeighboursSays, SearchSays, EnumerateSays, CreateAllows, CreateSays, DeleteSays, SaveSays, LoadSays}
+use Rattle.ushanderi.specs.declared.reports.DensityAnswer.{DensityAnswer}
+use Rattle.ushanderi.specs.Promises.{Unfit, Fit, FreshSays, CheckSays, ViewSays, FindSays, listed, NeighboursSays, SearchSays, EnumerateSays, DensitySays, CreateAllows, CreateSays, DeleteSays, SaveSays, LoadSays}
 use Rattle.claims.specs.AgreeChecks.{fit-forms, not-fit, number-is}
 use Rattle.claims.specs.AgreeReads.{fresh-agrees, check-agrees, view-placed, enumerate-agrees}
 use Rattle.claims.specs.AgreeCreate.{create-done}
@@ -42,10 +45,13 @@ use Rattle.claims.specs.Drawing.{area, A, B, C, Draws, areaOf}
 abbrev pub Refuses : Answer → Type 0
 Refuses a = a .number ≢ pos DONE
 
+abbrev pub RefusesReport : DensityAnswer → Type 0
+RefusesReport a = a .number ≢ pos DONE
+
 accepts : (a : Answer) (value : ℕ) → a ≡ accepted value → Refuses a → ⊥
 accepts a value e n = n (number-is e)
 
--- ---- one that always refuses: where no check of 01 stops the call, no refusal is allowed
+-- ---- one that always refuses: where no check of 01 or 02 stops the call, no refusal is allowed
 
 pub record NoRefusal : Type 0 where
   pub fresh : (t t′ : List ℤ) (a : Answer) → SizeRight t → FreshSays t t′ a → Refuses a → ⊥
@@ -58,6 +64,8 @@ pub record NoRefusal : Type 0 where
   pub search : (t : List ℤ) (R : Area) (a : Answer) → Fit t → RectRight R → SearchSays t R a → Refuses a → ⊥
   pub enumerate : (t : List ℤ) (R : Area) (out out′ : List ℤ) (a : Answer) → Fit t → RectRight R
       → ((ks : List ℕ) → Directed t R ks → length ks ≤ length out) → EnumerateSays t R out out′ a → Refuses a → ⊥
+  pub density : (t : List ℤ) (R : Area) (w h : ℕ) (out out′ : List Float) (a : DensityAnswer) → Fit t → RectRight R → Steps R w h
+      → windowsOf R w h ≤ length out → DensitySays t R w h out out′ a → RefusesReport a → ⊥
   pub create : (t : List ℤ) (R : Area) (label : ℕ) (t′ : List ℤ) (a : Answer) → CreateAllows t R label → CreateSays t R label t′ a → Refuses a → ⊥
   pub delete : (t : List ℤ) (x y i : ℕ) (t′ : List ℤ) (a : Answer) → Fit t → Finds t x y i → SolidIn t i → DeleteSays t x y t′ a → Refuses a → ⊥
   pub save : (t : List ℤ) (out out′ : List ℕ) (a : Answer) → Fit t → SAVED * solidsIn t ≤ length out → SaveSays t out out′ a → Refuses a → ⊥
@@ -97,6 +105,14 @@ no-refused-enumerate t R out out′ a f q l (EnumerateSays.rect g n e w) r = n q
 no-refused-enumerate t R out out′ a f q l (EnumerateSays.short g p ks d h e w) r = omega (arith, l ks d)
 no-refused-enumerate t R out out′ a f q l (EnumerateSays.done g p ks d h e w) r = accepts a (length ks) e r
 
+no-refused-density : (t : List ℤ) (R : Area) (w h : ℕ) (out out′ : List Float) (a : DensityAnswer) → Fit t → RectRight R → Steps R w h
+    → windowsOf R w h ≤ length out → DensitySays t R w h out out′ a → RefusesReport a → ⊥
+no-refused-density t R w h out out′ a f q p l (DensitySays.unfit b u e z) r = not-fit t b u f
+no-refused-density t R w h out out′ a f q p l (DensitySays.rect g n e z) r = n q
+no-refused-density t R w h out out′ a f q p l (DensitySays.step g o n e z) r = n p
+no-refused-density t R w h out out′ a f q p l (DensitySays.short g o s k e z) r = omega arith
+no-refused-density t R w h out out′ a f q p l (DensitySays.done g o s k b m e) r = r (ap (λ a. a .number) e)
+
 no-refused-create : (t : List ℤ) (R : Area) (label : ℕ) (t′ : List ℤ) (a : Answer) → CreateAllows t R label → CreateSays t R label t′ a → Refuses a → ⊥
 no-refused-create t R label t′ a g (CreateSays.refuses o w) r = never-refused g o
 no-refused-create t R label t′ a g (CreateSays.done k d e) r = accepts a k e r
@@ -109,6 +125,7 @@ no-refusal = record {
   neighbours = no-refused-neighbours;
   search = no-refused-search;
   enumerate = no-refused-enumerate;
+  density = no-refused-density;
   create = no-refused-create;
   delete = λ t x y i t′ a f h o s r. accepts a _ (deletes t f x y i h t′ a o s .0) r;
   save = λ t out out′ a f l s r. accepts a (SAVED * solidsIn t) (saves t f out out′ a l s .is) r;

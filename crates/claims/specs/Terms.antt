@@ -5,6 +5,7 @@ use mathlib.Core.Path.{_≡_}
 use mathlib.Core.Bool.{Bool}
 use Prim.Native.Nat.{ℕ, _+_, _<_, _%_, _/_, _≤_}
 use lib.IntN.{ℤ, pos}
+use lib.Ieee.{Float}
 use lib.Dec.{eqb}
 use lib.ListN.{length}
 use Rattle.geometry.specs.Picture.{Tile, FREE, ZERO, Has}
@@ -12,10 +13,14 @@ use Rattle.geometry.specs.Counting.{count}
 use Rattle.table.specs.Sound.{SolidIn, UsedIn, NONE, Zeros}
 use Rattle.table.specs.Words.{tileOf, BL, KIND, LB, RT, TR, num, recordsOf}
 use Rattle.seek.specs.Meaning.{Area, InArea, RectRight}
+use Rattle.density.specs.Meaning.{Steps, windowsOf}
+use Rattle.density.specs.Report.{Reports}
+use Rattle.density.specs.declared.windows.Report.{Report}
 use Rattle.layout.specs.Bytes.{savedAt, SAVED}
 use Rattle.ushanderi.specs.declared.answer.Answer.{Answer}
+use Rattle.ushanderi.specs.declared.reports.DensityAnswer.{DensityAnswer}
 use Rattle.ushanderi.specs.Promises.{CreateDone, areaIn, Built, CreateRefuses}
-use Rattle.ushanderi.specs.Answers.{DONE, accepted, answered}
+use Rattle.ushanderi.specs.Answers.{DONE, accepted, answered, reported}
 
 -- some record of t is the solid w
 pub record Shows (t : List ℤ) (w : Tile) : Type 0 where
@@ -91,6 +96,14 @@ pub record Created (t : List ℤ) (A : Area) (label : ℕ) (t′ : List ℤ) (a 
   pub at : ℕ
   pub done : CreateDone t A label t′ at
   pub is : a ≡ accepted at
+
+-- an accepted density report and its answer
+pub record Given (t : List ℤ) (A : Area) (w h : ℕ) (out out′ : List Float) (a : DensityAnswer) : Type 0 where
+  pub rect : RectRight A
+  pub steps : Steps A w h
+  pub report : Report
+  pub reports : Reports t A w h out out′ report
+  pub is : a ≡ reported (windowsOf A w h) report
 
 -- the solids of u and v agree record by record
 pub record SameRecords (u v : List ℤ) : Type 0 where

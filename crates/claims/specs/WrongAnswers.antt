@@ -1,12 +1,14 @@
 -- Wrong answers that no promise allows, beside the shams: each lemma says what every allowed answer keeps to. Assumes nothing.
-use mathlib.Core.Path.{_≡_, refl, sym, ap, _∙_, subst}
-use mathlib.Core.Logic.{_≢_}
+use mathlib.Core.Path.{_≡_, refl, sym, ap, ap₂, _∙_, subst}
+use mathlib.Core.Logic.{_≢_, _⊎_, ⊎-elim}
 use mathlib.Core.List.{List, [], map}
-use Prim.Native.Nat.{ℕ, _+_, _*_, _%_, _≤_, _<_}
+use Prim.Native.Nat.{ℕ, _+_, _-_, _*_, _%_, _≤_, _<_}
+use native.Mathlib.Nat.{zero-add, add-zero, sub-zero, zero-mul, zero-div, zero-mod, mul-pos}
 use native.Mathlib.Omega.{arith}
 use lib.IntN.{ℤ, pos}
-use lib.ListN.{length, getD, take, drop, length-map}
-use lib.Seq.{drop-at}
+use lib.Ieee.{Float}
+use lib.ListN.{length, getD, take, drop, length-map, length-drop}
+use lib.Seq.{drop-at, ext-getD, getD-drop}
 use denote.Ref.{now}
 use Rattle.geometry.specs.Picture.{ZERO, InPlane, Has, Side, top, right, bottom, left}
 use Rattle.geometry.specs.Tiling.{space-is}
@@ -19,20 +21,32 @@ use Rattle.table.specs.Examples.{one, one-spaces, one-solids}
 use Rattle.seek.specs.Meaning.{Area, RectRight}
 use Rattle.seek.specs.Find.{Finds}
 use Rattle.seek.specs.Neighbours.{Touches, Neighbours}
+use Rattle.density.specs.Meaning.{covered, Steps, columnsOf, windowsOf, windowAt, countOf}
+use Rattle.density.specs.Shares.{float, quotient, shareOf}
+use Rattle.density.specs.declared.shares.Density.the-variants.{Bare, Filled}
+use Rattle.density.specs.ShareOrder.{share-is}
+use Rattle.density.specs.Report.{Written}
+use Rattle.density.specs.Windows.{some-window}
+use Rattle.density.specs.ShareLaws.{share-filled}
+use Rattle.density.specs.Reporting.{small, count-most}
+use Rattle.density.specs.declared.windows.Report.{Report}
 use Rattle.layout.specs.Order.{savedOf}
 use Rattle.layout.specs.Bytes.{fileBytes, SAVED}
 use Rattle.layout.specs.BytesLaws.{file-length}
 use Rattle.layout.specs.OneOrder.{saves-bytes}
-use Rattle.ushanderi.specs.Answers.{DONE, POINT, RECT, LABEL, FULL, answered, accepted, refused}
+use Rattle.ushanderi.specs.Answers.{DONE, POINT, RECT, LABEL, FULL, SHORT, STEP, answered, accepted, refused, reported, unreported}
 use Rattle.ushanderi.specs.declared.answer.Answer.{Answer}
+use Rattle.ushanderi.specs.declared.reports.DensityAnswer.{DensityAnswer}
 use Rattle.ushanderi.specs.Edits.{labelIn}
-use Rattle.ushanderi.specs.Promises.{Unfit, Fit, FreshSays, CheckSays, ViewSays, FindSays, listed, NeighboursSays, SearchSays, EnumerateSays, CreateRefuses, CreateSays, DeleteSays, SaveSays, LoadStops, LoadSays}
+use Rattle.ushanderi.specs.Promises.{Unfit, Fit, FreshSays, CheckSays, ViewSays, FindSays, listed, NeighboursSays, SearchSays, EnumerateSays, DensitySays, CreateRefuses, CreateSays, DeleteSays, SaveSays, LoadStops, LoadSays}
 use Rattle.claims.specs.AgreeChecks.{fit-forms, number-is, number-one, not-done, unfit-not-done}
 use Rattle.claims.specs.AgreeReads.{neighbours-agrees}
+use Rattle.claims.specs.AgreeReports.{density-agrees, refusal-number, density-done}
 use Rattle.claims.specs.AgreeCreate.{edited-fit, create-done, create-agrees}
 use Rattle.claims.specs.AgreeDelete.{delete-done}
 use Rattle.claims.specs.Allowed.{deletes}
-use Rattle.claims.specs.Shams.{Refuses, negative}
+use Rattle.claims.specs.Density.{entry, entry-share}
+use Rattle.claims.specs.Shams.{Refuses, RefusesReport, negative}
 use Rattle.claims.specs.Terms.{Keeps, Shares, Stop}
 
 same-value : {m n i j : ℕ} → answered m i ≡ answered n j → i ≡ j
@@ -44,6 +58,7 @@ pub record Unwritten : Type 0 where
   pub fresh : (t t′ : List ℤ) (a : Answer) → FreshSays t t′ a → Refuses a → t′ ≡ t
   pub neighbours : (t : List ℤ) (x y : ℕ) (side : ℤ) (out out′ : List ℤ) (a : Answer) → NeighboursSays t x y side out out′ a → Refuses a → out′ ≡ out
   pub enumerate : (t : List ℤ) (R : Area) (out out′ : List ℤ) (a : Answer) → EnumerateSays t R out out′ a → Refuses a → out′ ≡ out
+  pub density : (t : List ℤ) (R : Area) (w h : ℕ) (out out′ : List Float) (a : DensityAnswer) → DensitySays t R w h out out′ a → RefusesReport a → out′ ≡ out
   pub create : (t : List ℤ) (R : Area) (label : ℕ) (t′ : List ℤ) (a : Answer) → CreateSays t R label t′ a → Refuses a → t′ ≡ t
   pub delete : (t : List ℤ) (x y : ℕ) (t′ : List ℤ) (a : Answer) → DeleteSays t x y t′ a → Refuses a → t′ ≡ t
   pub save : (t : List ℤ) (out out′ : List ℕ) (a : Answer) → SaveSays t out out′ a → Refuses a → out′ ≡ out
@@ -65,6 +80,13 @@ enumerate-kept t R out out′ a (EnumerateSays.unfit u w) r = w
 enumerate-kept t R out out′ a (EnumerateSays.rect f n e w) r = w
 enumerate-kept t R out out′ a (EnumerateSays.short f p ks d o e w) r = w
 enumerate-kept t R out out′ a (EnumerateSays.done f p ks d o e w) r = absurd (r (number-is e))
+
+density-kept : (t : List ℤ) (R : Area) (w h : ℕ) (out out′ : List Float) (a : DensityAnswer) → DensitySays t R w h out out′ a → RefusesReport a → out′ ≡ out
+density-kept t R w h out out′ a (DensitySays.unfit b u e z) r = z
+density-kept t R w h out out′ a (DensitySays.rect f n e z) r = z
+density-kept t R w h out out′ a (DensitySays.step f p n e z) r = z
+density-kept t R w h out out′ a (DensitySays.short f p s o e z) r = z
+density-kept t R w h out out′ a (DensitySays.done f p s o g m e) r = absurd (r (ap (λ a. a .number) e))
 
 create-kept : (t : List ℤ) (R : Area) (label : ℕ) (t′ : List ℤ) (a : Answer) → CreateSays t R label t′ a → Refuses a → t′ ≡ t
 create-kept t R label t′ a (CreateSays.refuses o w) r = w
@@ -90,6 +112,7 @@ unwritten = record {
   fresh = fresh-kept;
   neighbours = neighbours-kept;
   enumerate = enumerate-kept;
+  density = density-kept;
   create = create-kept;
   delete = delete-kept;
   save = save-kept;
@@ -120,6 +143,8 @@ stopped-at t bs t′ number n z d r (LoadSays.done y q b e) = absurd (r (number-
 pub record RestKept : Type 0 where
   pub neighbours : (t : List ℤ) (x y : ℕ) (side : ℤ) (out out′ : List ℤ) (n : ℕ) → NeighboursSays t x y side out out′ (accepted n) → drop n out′ ≡ drop n out
   pub enumerate : (t : List ℤ) (R : Area) (out out′ : List ℤ) (n : ℕ) → EnumerateSays t R out out′ (accepted n) → drop n out′ ≡ drop n out
+  pub density : (t : List ℤ) (R : Area) (w h : ℕ) (out out′ : List Float) (n : ℕ) (r : Report) → DensitySays t R w h out out′ (reported n r)
+      → drop n out′ ≡ drop n out
   pub save : (t : List ℤ) (out out′ : List ℕ) (n : ℕ) → SaveSays t out out′ (accepted n) → drop n out′ ≡ drop n out
 
 listed-rest : (ks : List ℕ) (out out′ : List ℤ) (n : ℕ) → accepted n ≡ accepted (length ks) → out′ ≡ listed ks out → drop n out′ ≡ drop n out
@@ -140,6 +165,23 @@ enumerate-rest t R out out′ n (EnumerateSays.rect f p e w) = ap (drop n) w
 enumerate-rest t R out out′ n (EnumerateSays.short f p ks d o e w) = ap (drop n) w
 enumerate-rest t R out out′ n (EnumerateSays.done f p ks d o e w) = listed-rest ks out out′ n e w
 
+written-rest : (t : List ℤ) (R : Area) (w h : ℕ) (out out′ : List Float) (n : ℕ) → Written t R w h out out′ n → drop n out′ ≡ drop n out
+written-rest t R w h out out′ n p =
+    ext-getD (float 0) (drop n out′) (drop n out) (length-drop n out′ ∙ ap (λ k. k - n) (p .long) ∙ sym (length-drop n out))
+    (λ m l. getD-drop n out′ m (float 0) ∙ p .rest (n + m) (omega arith) ∙ sym (getD-drop n out m (float 0)))
+
+density-rest : (t : List ℤ) (R : Area) (w h : ℕ) (out out′ : List Float) (n : ℕ) (r : Report) → DensitySays t R w h out out′ (reported n r)
+    → drop n out′ ≡ drop n out
+density-rest t R w h out out′ n r (DensitySays.unfit b u e z) = ap (drop n) z
+density-rest t R w h out out′ n r (DensitySays.rect f p e z) = ap (drop n) z
+density-rest t R w h out out′ n r (DensitySays.step f p q e z) = ap (drop n) z
+density-rest t R w h out out′ n r (DensitySays.short f p s o e z) = ap (drop n) z
+density-rest t R w h out out′ n r (DensitySays.done f p s o g m e) =
+    subst (λ n. drop n out′ ≡ drop n out) (sym (same-windows e)) (written-rest t R w h out out′ (windowsOf R w h) (m .written))
+  where
+    same-windows : {i j : ℕ} {p q : Report} → reported i p ≡ reported j q → i ≡ j
+    same-windows {i} {j} e = let z : pos i ≡ pos j = ap (λ a. a .value) e in cc
+
 save-rest : (t : List ℤ) (out out′ : List ℕ) (n : ℕ) → SaveSays t out out′ (accepted n) → drop n out′ ≡ drop n out
 save-rest t out out′ n (SaveSays.unfit u w) = ap (drop n) w
 save-rest t out out′ n (SaveSays.short f ks l o e w) = ap (drop n) w
@@ -149,7 +191,7 @@ save-rest t out out′ n (SaveSays.done f m s o e) =
     (ap (drop m) (s .writes) ∙ drop-at (fileBytes saved) (drop m out) m (file-length saved ∙ ap (λ n. SAVED * n) (length-map (s .solids) (savedOf t)) ∙ sym (s .number)))
 
 pub rest-kept : RestKept
-rest-kept = record { neighbours = neighbours-rest; enumerate = enumerate-rest; save = save-rest }
+rest-kept = record { neighbours = neighbours-rest; enumerate = enumerate-rest; density = density-rest; save = save-rest }
 
 -- ---- a later check before an earlier one
 
@@ -157,6 +199,17 @@ module _ (t : List ℤ) (f : Fit t) where
   -- SIDE before POINT
   pub point-first : (x y : ℕ) (side : ℤ) (out out′ : List ℤ) (a : Answer) → (InPlane x y → ⊥) → NeighboursSays t x y side out out′ a → a ≡ refused POINT
   point-first x y side out out′ a n s = neighbours-agrees t x y side out out′ out a (refused POINT) s (NeighboursSays.point f n refl refl) .0
+
+  -- STEP before RECT, and SHORT before STEP: the list's length does not matter
+  pub report-rect-first : (R : Area) (w h : ℕ) (out out′ : List Float) (a : DensityAnswer) → (RectRight R → ⊥) → DensitySays t R w h out out′ a
+      → a ≡ unreported (refused RECT)
+  report-rect-first R w h out out′ a n s =
+      density-agrees t R w h out out′ out a (unreported (refused RECT)) s (DensitySays.rect f n refl refl) .0
+
+  pub step-first : (R : Area) (w h : ℕ) (out out′ : List Float) (a : DensityAnswer) → RectRight R → (Steps R w h → ⊥) → DensitySays t R w h out out′ a
+      → a ≡ unreported (refused STEP)
+  step-first R w h out out′ a r n s =
+      density-agrees t R w h out out′ out a (unreported (refused STEP)) s (DensitySays.step f r n refl refl) .0
 
   module _ (R : Area) (label : ℕ) (t′ : List ℤ) (a : Answer) (s : CreateSays t R label t′ a) where
     refuses-with : (n : ℕ) → n ≢ DONE → CreateRefuses t R label (refused n) → a ≡ refused n
@@ -239,6 +292,83 @@ pub save-counts : (t : List ℤ) (out out′ : List ℕ) (n : ℕ) → SaveSays 
 save-counts t out out′ n (SaveSays.unfit u w) = absurd (unfit-not-done t (accepted n) u refl)
 save-counts t out out′ n (SaveSays.short f ks l o e w) = absurd (not-done {value = SAVED * length ks} e (λ e. omega arith) refl)
 save-counts t out out′ n (SaveSays.done f m s o e) = same-value e ∙ saves-bytes t out out′ m s
+
+-- ---- density
+
+-- the rectangle of that width and height in an area's upper left corner
+abbrev pub cornerOf : Area → ℕ → ℕ → Area
+cornerOf R w h = record { left = R .left; bottom = R .top - h; right = R .left + w; top = R .top }
+
+corner-is : (R : Area) (w h : ℕ) → windowAt R w h 0 0 ≡ cornerOf R w h
+corner-is R w h = rw (zero-mul w, zero-mul h, zero-add h, add-zero (R .left), sub-zero (R .top)) refl
+
+module _ (t : List ℤ) (R : Area) (w h : ℕ) (out out′ : List Float) (a : DensityAnswer) (s : DensitySays t R w h out out′ a) where
+  -- a refusal that carries a share or a total
+  pub refused-blank : RefusesReport a → (a .lowest ≡ float 0) × (a .highest ≡ float 0) × (a .covered ≡ pos 0)
+  refused-blank r = go s
+    where
+      blank : {b : Answer} → a ≡ unreported b → (a .lowest ≡ float 0) × (a .highest ≡ float 0) × (a .covered ≡ pos 0)
+      blank e = (ap (λ a. a .lowest) e, ap (λ a. a .highest) e, ap (λ a. a .covered) e)
+
+      go : DensitySays t R w h out out′ a → (a .lowest ≡ float 0) × (a .highest ≡ float 0) × (a .covered ≡ pos 0)
+      go (DensitySays.unfit b u e z) = blank e
+      go (DensitySays.rect f n e z) = blank e
+      go (DensitySays.step f p n e z) = blank e
+      go (DensitySays.short f p m o e z) = blank e
+      go (DensitySays.done f p m o g q e) = absurd (r (ap (λ a. a .number) e))
+
+  -- another number of windows, of a report or of SHORT
+  pub windows-counted : (a .number ≡ pos DONE) ⊎ (a .number ≡ pos SHORT) → a .value ≡ pos (windowsOf R w h)
+  windows-counted k = go s
+    where
+      neither : {m value : ℕ} → a ≡ unreported (answered m value) → m ≢ DONE → m ≢ SHORT → ⊥
+      neither e n o = ⊎-elim (λ h. n (refusal-number e h)) (λ h. o (refusal-number e h)) k
+
+      go : DensitySays t R w h out out′ a → a .value ≡ pos (windowsOf R w h)
+      go (DensitySays.unfit b (Unfit.size n d) e z) = absurd (neither (e ∙ ap unreported d) (λ e. omega arith) (λ e. omega arith))
+      go (DensitySays.unfit b (Unfit.unsound y n d) e z) = absurd (neither (e ∙ ap unreported d) (λ e. omega arith) (λ e. omega arith))
+      go (DensitySays.rect f n e z) = absurd (neither e (λ e. omega arith) (λ e. omega arith))
+      go (DensitySays.step f p n e z) = absurd (neither e (λ e. omega arith) (λ e. omega arith))
+      go (DensitySays.short f p m o e z) = ap (λ a. a .value) e
+      go (DensitySays.done f p m o g q e) = ap (λ a. a .value) e
+
+  module _ (d : a .number ≡ pos DONE) where
+    -- a width or a height of 0 accepted
+    pub sides-some : (w ≢ 0) × (h ≢ 0)
+    sides-some = let g = density-done s d in (λ e. omega (arith, g .steps .wide), λ e. omega (arith, g .steps .high))
+
+    -- the lowest of those windows alone that are not Bare
+    pub lowest-bare : (n : ℕ) → n < windowsOf R w h → countOf t R w h n ≡ 0 → a .lowest ≡ float 0
+    unfolding shareOf
+    lowest-bare n l e =
+        let g = density-done s d in
+        let z : g .reports .least ≡ 0 = omega (arith, g .reports .least-is .least n l) in
+        ap (λ a. a .lowest) (g .is) ∙ g .reports .lowest ∙ ap (λ c. shareOf c (w * h)) z
+
+    -- the highest of those alone that are not Filled
+    pub highest-filled : (n : ℕ) → n < windowsOf R w h → countOf t R w h n ≡ w * h → a .highest ≡ float 1
+    highest-filled n l e =
+        let g = density-done s d in
+        let p = g .reports .most-is in
+        let z : g .reports .most ≡ w * h = omega (arith, p .is, p .most n l, count-most t R (g .rect) w h (g .steps) (p .at) (p .below)) in
+        ap (λ a. a .highest) (g .is) ∙ g .reports .highest ∙ ap (λ c. shareOf c (w * h)) z ∙ share-filled (w * h) (mul-pos (g .steps .wide) (g .steps .high))
+
+    -- shares of the area's cells: an entry is the count divided by the window's cells, and Bare and Filled are no exceptions
+    pub by-window : (n : ℕ) → n < windowsOf R w h → entry out′ n ≡ quotient (countOf t R w h n) (w * h)
+    by-window n l =
+        let g = density-done s d in
+        entry-share t R w h out out′ a s d n l
+        ∙ share-is (countOf t R w h n) (w * h) (mul-pos (g .steps .wide) (g .steps .high)) (count-most t R (g .rect) w h (g .steps) n l)
+        (small R (g .rect) w h (g .steps) .cells)
+
+    -- the bottom row first: the first entry is the share of the window in the area's upper left corner
+    pub corner-first : entry out′ 0 ≡ shareOf (covered t (cornerOf R w h)) (w * h)
+    corner-first =
+        let g = density-done s d in
+        let C = columnsOf R w in
+        entry-share t R w h out out′ a s d 0 (some-window R (g .rect) w h (g .steps))
+        ∙ ap₂ (λ r c. shareOf (covered t (windowAt R w h r c)) (w * h)) (zero-div C) (zero-mod C)
+        ∙ ap (λ A. shareOf (covered t A) (w * h)) (corner-is R w h)
 
 -- ---- edits
 

@@ -13,7 +13,8 @@
  * - The pointer is aligned for its items and not null, also where the length is 0, and a slice has fewer than 2^63
  *   bytes. Two slices of one call do not overlap.
  * - During a call nobody else writes the lent memory, or reads what the call may write.
- * - A call takes at most USH_STACK_BYTES of stack below its caller's frame. */
+ * - A call takes at most USH_STACK_BYTES of stack below its caller's frame.
+ * - The machine rounds floats to the nearest, as it does unless a program has changed that: ush_density divides. */
 #ifndef USHANDERI_H
 #define USHANDERI_H
 
@@ -39,7 +40,8 @@ enum {
     USH_SIDE = 9,      /* side is not 0..3 */
     USH_SHORT = 10,    /* the lent list is shorter than needed; value: the length needed */
     USH_FILE = 11,     /* saved bytes not a multiple of 20 */
-    USH_ROOM = 12      /* no record of the table is free at entry */
+    USH_ROOM = 12,     /* no record of the table is free at entry */
+    USH_STEP = 13      /* a window's width or height is below 1, or does not divide the area's */
 };
 
 /* The sides of a tile, and the order in which the neighbours along each are listed. */
@@ -62,10 +64,11 @@ enum { USH_KIND_FREE = 0, USH_KIND_SPACE = 1, USH_KIND_SOLID = 2 };
 #define USH_MOST_RECORDS 4016
 #define USH_RECORDS_FOR(solids) (4 * (solids) + 16)   /* for 1 to 1,000 solids */
 #define USH_SAVED_BYTES 20                            /* of one solid in a saved layout */
-#define USH_STACK_BYTES 327680                        /* 320 KiB; enumerate takes most, on 1,000 solids in a row */
+#define USH_STACK_BYTES 327680                        /* 320 KiB; density takes most, on 1,000 solids in a row */
 
 typedef struct { int32_t number; int32_t value; } ush_answer;
 typedef struct { size_t at; size_t len; } ush_part;             /* words table[at .. at + len) */
+typedef struct { int32_t number; int64_t value; double lowest; double highest; int64_t covered; } ush_density_report;
 
 /* Makes the table an empty plane: record 0 is the one space tile with four stitches of -1, all other words are 0.
  * Answers SIZE; DONE with value 0. */
@@ -102,6 +105,16 @@ ush_answer ush_search(const int32_t *table, size_t words, int32_t left, int32_t 
  * records. Writes nothing else. */
 ush_answer ush_enumerate(const int32_t *table, size_t words, int32_t left, int32_t bottom, int32_t right, int32_t top,
                          int32_t *list, size_t room);
+
+/* Tells how much of each window of an area is metal. Windows are width by height cells, taken row by row from the top
+ * and each row from left to right. A window's share, a 64-bit float, is 0.0 where no cell of it is held by a solid, 1.0
+ * where all are, and else one division of the covered cells by the window's; of two windows the one with more covered
+ * cells has the larger share.
+ * Answers SIZE, UNSOUND, RECT, STEP, SHORT; DONE with how many windows there are, up to 2^50, the lowest and the
+ * highest share of all windows, and the covered cells of the area; as many first entries of the list are the shares.
+ * Writes nothing else. A refusal, SHORT too, has 0.0 for both shares and 0 for the covered cells. */
+ush_density_report ush_density(const int32_t *table, size_t words, int32_t left, int32_t bottom, int32_t right,
+                               int32_t top, int32_t width, int32_t height, double *shares, size_t room);
 
 /* Draws a solid. The solids that are there keep their records.
  * Answers SIZE, UNSOUND, RECT, LABEL, OCCUPIED (value: the record that ush_search gives), FULL; DONE with the new

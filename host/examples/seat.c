@@ -1,6 +1,6 @@
-/* A seat in C: makes a plane, draws a clock trunk with branches, asks what is beside it and where is room, shows a
- * refusal, removes a branch, and saves. Prints the same lines every time; seat.txt holds them. A file that is named is
- * given the saved layout, for `draw` and the lister to read. From the folder above:
+/* A seat in C: makes a plane, draws a clock trunk with branches, asks what is beside it, where is room and how much is
+ * metal, shows a refusal, removes a branch, and saves. Prints the same lines every time; seat.txt holds them. A file
+ * that is named is given the saved layout, for `draw` and the lister to read. From the folder above:
  *
  *   gcc -std=c11 -Wall -Wextra -Werror -I. examples/seat.c ../target/staticlib/libushanderi.a -o ../target/seat
  *   ../target/seat [FILE] | diff - examples/seat.txt */
@@ -8,15 +8,17 @@
 
 #include <stdio.h>
 
-enum { SOLIDS = 40, RECORDS = USH_RECORDS_FOR(SOLIDS), WORDS = RECORDS * USH_RECORD_WORDS, BRANCHES = 4 };
+enum { SOLIDS = 40, RECORDS = USH_RECORDS_FOR(SOLIDS), WORDS = RECORDS * USH_RECORD_WORDS, BRANCHES = 4, WINDOWS = 4 };
 enum { TRUNK_NET = 1, BRANCH_NET = 2 };
 
 static int32_t table[WORDS];
 static int32_t list[RECORDS];
 static uint8_t saved[SOLIDS * USH_SAVED_BYTES];
+static double shares[WINDOWS];
 
 static const char *const names[] = {
     "done", "size", "unsound", "point", "rect", "label", "occupied", "full", "space", "side", "short", "file", "room",
+    "step",
 };
 
 /* Prints a tile by its rectangle: which record it has is the server's affair. */
@@ -63,6 +65,17 @@ static void ask_whether_free(int32_t left, int32_t bottom, int32_t right, int32_
     printf("%s\n", answer.number == USH_DONE ? "free" : names[answer.number]);
 }
 
+static void print_density(int32_t width, int32_t height)
+{
+    ush_density_report report = ush_density(table, WORDS, 40, 0, 180, 100, width, height, shares, WINDOWS);
+    printf("density of 40 0 180 100, windows of %d by %d: %s, %d\n", (int)width, (int)height, names[report.number],
+           (int)report.value);
+    for (int64_t window = 0; report.number == USH_DONE && window < report.value; window++) {
+        printf("  share %.4f\n", shares[window]);
+    }
+    printf("  from %.4f to %.4f, %d cells\n", report.lowest, report.highest, (int)report.covered);
+}
+
 /* How many bytes were saved. */
 static size_t save_and_load_again(void)
 {
@@ -106,6 +119,9 @@ int main(int count, char **arguments)
     print_list("in 120 10 160 60", ush_enumerate(table, WORDS, 120, 10, 160, 60, list, RECORDS));
     ask_whether_free(120, 20, 160, 50);
     ask_whether_free(120, 20, 160, 60);
+    print_density(70, 50);
+    print_density(70, 25);
+    print_density(60, 50);
     draw(150, 0, 155, 100, 9);
     draw(150, 0, 150, 100, 9);
     printf("delete at (160, 56): label %d\n", (int)ush_delete(table, WORDS, 160, 56).value);

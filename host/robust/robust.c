@@ -1,4 +1,4 @@
-/* The robustness run from C: all eleven calls on memory that ends, or begins, at a page that nobody may touch. What is
+/* The robustness run from C: all twelve calls on memory that ends, or begins, at a page that nobody may touch. What is
  * lent for reading lies in pages that cannot be written meanwhile. So a read or write outside the lent slices, or a
  * write to a slice lent for reading, ends the program; that holds for the archive's code too, which the sanitizers do
  * not see. The host's own side is built with the address and the undefined behaviour sanitizer. `robust/run` builds it
@@ -12,7 +12,7 @@
 #include <sys/mman.h>
 #include <unistd.h>
 
-enum { ANSWERS = 13, TURNS = 4, MOST_WORDS = 40200, MOST_LIST = 5000 };
+enum { ANSWERS = 14, TURNS = 4, MOST_WORDS = 40200, MOST_LIST = 5000 };
 
 /* A run of pages between two that cannot be touched, and the items lent, which begin or end there. */
 struct ward {
@@ -39,6 +39,7 @@ static long seed;
 
 static const char *const answer_names[ANSWERS] = {
     "DONE", "SIZE", "UNSOUND", "POINT", "RECT", "LABEL", "OCCUPIED", "FULL", "SPACE", "SIDE", "SHORT", "FILE", "ROOM",
+    "STEP",
 };
 
 static uint32_t random_word(void)
@@ -165,9 +166,11 @@ static void draw_table(void)
     }
 }
 
-static void draw_list(void)
+/* A list of whole entries, which are words unless they are larger. */
+static void draw_list(size_t entry_bytes)
 {
-    place(&list, sizeof(int32_t) * below(below(4) ? 12 : MOST_LIST / 4));
+    size_t unit = entry_bytes > sizeof(int32_t) ? entry_bytes : sizeof(int32_t);
+    place(&list, unit * below(below(4) ? 12 : MOST_LIST / 4));
     memset(list.items, 0xa5, list.bytes);
 }
 
@@ -265,6 +268,78 @@ static ush_answer enumerate(void)
     return answer;
 }
 
+/* A window's side, and the line that ends the area: mostly so many windows further, else anything of any sign. */
+static int32_t window_side(int32_t low, int32_t *high)
+{
+    static const int32_t extremes[] = {INT32_MIN, -USH_EDGE, -1, 0, 1, USH_EDGE, 2 * USH_EDGE, INT32_MAX};
+    int32_t side = 1 + (int32_t)below(below(2) ? 4 : 30);
+    *high = (int32_t)((uint32_t)low + (uint32_t)side * (1 + below(below(2) ? 3 : 20)));
+    return below(8) ? side : extremes[below(sizeof extremes / sizeof *extremes)];
+}
+
+/* The solids' cells in the area, from their records. */
+static int64_t covered_cells(int32_t left, int32_t bottom, int32_t right, int32_t top)
+{
+    int64_t cells = 0;
+    for (int32_t number = 0; (size_t)number < word_count() / USH_RECORD_WORDS; number++) {
+        const int32_t *tile = record(number);
+        if (tile[USH_WORD_KIND] == USH_KIND_SOLID && meets(number, left, bottom, right, top)) {
+            int32_t from = tile[USH_WORD_LEFT] > left ? tile[USH_WORD_LEFT] : left;
+            int32_t to = tile[USH_WORD_RIGHT] < right ? tile[USH_WORD_RIGHT] : right;
+            int32_t under = tile[USH_WORD_BOTTOM] > bottom ? tile[USH_WORD_BOTTOM] : bottom;
+            int32_t over = tile[USH_WORD_TOP] < top ? tile[USH_WORD_TOP] : top;
+            cells += (int64_t)(to - from) * (over - under);
+        }
+    }
+    return cells;
+}
+
+static int same_bits(double one, double other)
+{
+    return memcmp(&one, &other, sizeof one) == 0;
+}
+
+/* Counts each window again. The division gives 0.0 for none and 1.0 for all, too. */
+static void check_windows(const ush_density_report *report, const double *shares, int32_t left, int32_t right,
+                          int32_t top, int32_t width, int32_t height)
+{
+    int64_t columns = (right - left) / width, cells = (int64_t)width * height;
+    int64_t lowest = cells, highest = 0, covered = 0;
+    for (int64_t window = 0; window < report->value; window++) {
+        int32_t x = left + (int32_t)(window % columns) * width, y = top - (int32_t)(window / columns) * height;
+        int64_t count = covered_cells(x, y - height, x + width, y);
+        must(same_bits(shares[window], (double)count / (double)cells), "a window has another share");
+        lowest = count < lowest ? count : lowest;
+        highest = count > highest ? count : highest;
+        covered += count;
+    }
+    must(report->covered == covered, "not the cells that are covered");
+    must(same_bits(report->lowest, (double)lowest / (double)cells), "another lowest share");
+    must(same_bits(report->highest, (double)highest / (double)cells), "another highest share");
+}
+
+/* Now and then the whole plane, whose cells no list takes. The answer tells how many entries are written. */
+static ush_answer density(void)
+{
+    int32_t left = coordinate(), bottom = coordinate(), right, top;
+    int32_t width = window_side(left, &right), height = window_side(bottom, &top);
+    if (below(12) == 0) {
+        left = bottom = -USH_EDGE;
+        right = top = USH_EDGE;
+    }
+    double *shares = (double *)(void *)list.items;
+    ush_density_report report = ush_density(words(), word_count(), left, bottom, right, top, width, height, shares,
+                                            list.bytes / sizeof(double));
+    if (report.number == USH_DONE) {
+        check_windows(&report, shares, left, right, top, width, height);
+        return (ush_answer){USH_DONE, (int32_t)report.value};
+    }
+    must(same_bits(report.lowest, 0.0) && same_bits(report.highest, 0.0) && report.covered == 0,
+         "a refused report tells shares");
+    must((report.value > 0) == (report.number == USH_SHORT), "not the value of the refusal");
+    return (ush_answer){report.number, 0};
+}
+
 static ush_answer delete(void)
 {
     return ush_delete(words(), word_count(), coordinate(), coordinate());
@@ -288,6 +363,7 @@ static struct call calls[] = {
     {"neighbours", neighbours, 0, sizeof(int32_t), {0}},
     {"search", search, 0, 0, {0}},
     {"enumerate", enumerate, 0, sizeof(int32_t), {0}},
+    {"density", density, 0, sizeof(double), {0}},
     {"create", create, 1, 0, {0}},
     {"delete", delete, 1, 0, {0}},
     {"save", save, 0, 1, {0}},
@@ -298,7 +374,7 @@ enum { CALLS = sizeof calls / sizeof *calls };
 /* The calls that only read the table. Of the list they write as many entries as they say, and none with a refusal. */
 static ush_answer try_reading(const struct call *call)
 {
-    draw_list();
+    draw_list(call->entry_bytes);
     memcpy(list_before, list.items, list.bytes);
     protect(&table, 1);
     ush_answer answer = call->make();

@@ -23,6 +23,7 @@ struct deepest {
 
 static int32_t table[WORDS], list[USH_MOST_RECORDS];
 static uint8_t bytes[SOLIDS * USH_SAVED_BYTES];
+static double shares[1];
 static unsigned char *stack;
 static ucontext_t outside, inside;
 static const struct deepest *present;
@@ -119,6 +120,14 @@ static ush_answer enumerate(void)
     return ush_enumerate(table, WORDS, -USH_EDGE, -USH_EDGE, USH_EDGE, USH_EDGE, list, USH_MOST_RECORDS);
 }
 
+/* One window, which lists as much as enumerate does. */
+static ush_answer density(void)
+{
+    ush_density_report report = ush_density(table, WORDS, -USH_EDGE, -USH_EDGE, USH_EDGE, USH_EDGE, 2 * USH_EDGE,
+                                            2 * USH_EDGE, shares, 1);
+    return (ush_answer){report.number, (int32_t)report.value};
+}
+
 static ush_answer delete(void)
 {
     return ush_delete(table, WORDS, 10, SOLIDS);
@@ -142,6 +151,7 @@ static const struct deepest calls[] = {
     {"neighbours", row, neighbours},
     {"search", row, search},
     {"enumerate", row, enumerate},
+    {"density", row, density},
     {"create", column, create},
     {"delete", column_and_wall, delete},
     {"save", row, save},

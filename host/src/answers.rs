@@ -1,7 +1,8 @@
 //! The rectangle-list program's answers to the calls on a sound table, from its solids or from the tiles that
 //! [`crate::rects::tiles`] makes of them. A record is told by its tile, so that answers can be compared whatever
 //! records a table has used; a refusal is told by its number.
-use crate::calls::number;
+use crate::calls::{number, DensityReport};
+use crate::density::Density;
 use crate::rects::{holder, Rect, Solid, Tile};
 use crate::words::in_plane;
 
@@ -112,6 +113,35 @@ fn list_under(parent: Option<usize>, inside: &[Tile], hangs_under: &[Option<usiz
         listed.push(*tile);
         list_under(Some(place), inside, hangs_under, listed);
     }
+}
+
+/// The density report to a list of so many places, and the shares that it writes.
+pub fn density(solids: &[Solid], area: Rect, width: i32, height: i32, room: usize) -> (DensityReport, Vec<f64>) {
+    if !area.keeps_limits() {
+        return (DensityReport::refused(number::RECT), Vec::new());
+    }
+    let Some(windows) = area.windows(width, height) else {
+        return (DensityReport::refused(number::STEP), Vec::new());
+    };
+    if windows.len() > room {
+        return (DensityReport::short(windows.len()), Vec::new());
+    }
+    let share = |covered: u64| Density::of(covered, width as u64 * height as u64).share();
+    let counts: Vec<u64> = windows.map(|window| covered_cells(solids, &window)).collect();
+    let (lowest, highest) = counts.iter().fold((u64::MAX, 0), |(low, high), &count| (low.min(count), high.max(count)));
+    let report = DensityReport {
+        number: number::DONE,
+        value: counts.len() as i64,
+        lowest: share(lowest),
+        highest: share(highest),
+        covered: covered_cells(solids, &area) as i64,
+    };
+    (report, counts.into_iter().map(share).collect())
+}
+
+/// No cell is held twice, so each solid counts for itself.
+fn covered_cells(solids: &[Solid], area: &Rect) -> u64 {
+    solids.iter().filter_map(|solid| solid.rect.common(area)).map(|part| part.cells()).sum()
 }
 
 /// Adds the solid to the picture, of which the table takes at most so many.

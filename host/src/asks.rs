@@ -7,6 +7,9 @@ use crate::words::EDGE;
 /// Numbers at which a program may take one cell too many or too few.
 const RIM: [i32; 11] = [i32::MIN, -EDGE - 1, -EDGE, -EDGE + 1, -1, 0, 1, EDGE - 1, EDGE, EDGE + 1, i32::MAX];
 
+/// Window sides of every sign and size.
+const STEPS: [i32; 8] = [i32::MIN, -EDGE, -1, 0, 1, 2, EDGE, i32::MAX];
+
 /// Tries to find a free rectangle before one inside a single space tile is taken.
 const TRIES: usize = 6;
 
@@ -79,6 +82,31 @@ fn thin_area(tiles: &[Tile], random: &mut Random) -> Rect {
         0 => column,
         1 => Rect { bottom: y, top: y.wrapping_add(1), ..proper_area(tiles, random) },
         _ => Rect { bottom: y, top: y.wrapping_add(1), ..column },
+    }
+}
+
+/// An area, and the width and height of its windows: most divide it, into a few or into more than any list takes.
+pub fn windows(tiles: &[Tile], random: &mut Random) -> (Rect, i32, i32) {
+    let area = if random.one_in(16) { Rect::PLANE } else { area(tiles, random) };
+    if !area.keeps_limits() || random.one_in(10) {
+        return (area, random.pick(&STEPS), random.pick(&STEPS));
+    }
+    let (right, width) = divided(area.left, area.right, random);
+    let (top, height) = divided(area.bottom, area.top, random);
+    (Rect { right, top, ..area }, width, height)
+}
+
+/// The higher of two lines, and a window's side: the line is mostly moved so that the windows end there.
+fn divided(low: i32, high: i32, random: &mut Random) -> (i32, i32) {
+    let side = high - low;
+    match random.below(24) {
+        0 => (high, random.pick(&STEPS)),
+        1 => (high, side + random.pick(&[-1, 1, side])),
+        2 => (high, 1),
+        _ => {
+            let parts = random.between(1, side.min(9));
+            (low + side / parts * parts, side / parts)
+        }
     }
 }
 

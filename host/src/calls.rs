@@ -1,5 +1,6 @@
 //! The server's C names, each behind a safe function. Nothing compares these declarations with the archive but the
 //! comparison runs, so they follow ushanderi.h word for word.
+use crate::rects::Rect;
 
 /// The numbers an answer may have.
 pub mod number {
@@ -29,11 +30,13 @@ pub mod number {
     pub const FILE: i32 = 11;
     /// No record of the table is free.
     pub const ROOM: i32 = 12;
+    /// A window's side is below 1, or does not divide the area's.
+    pub const STEP: i32 = 13;
 
     /// The names by their numbers.
-    pub const NAMES: [&str; 13] = [
+    pub const NAMES: [&str; 14] = [
         "DONE", "SIZE", "UNSOUND", "POINT", "RECT", "LABEL", "OCCUPIED", "FULL", "SPACE", "SIDE", "SHORT", "FILE",
-        "ROOM",
+        "ROOM", "STEP",
     ];
 }
 
@@ -61,6 +64,43 @@ impl Answer {
     /// An answer of any number with a count or a place.
     pub fn with(number: i32, value: usize) -> Answer {
         Answer { number, value: i32::try_from(value).expect("a value fits its word") }
+    }
+}
+
+/// What the density report answers.
+#[repr(C)]
+#[derive(Clone, Copy, Debug)]
+pub struct DensityReport {
+    /// One of [`number`]'s.
+    pub number: i32,
+    /// The number of windows, also where the list is too short for them; 0 with other refusals.
+    pub value: i64,
+    /// The share of the window with the fewest covered cells; 0.0 with a refusal, as the next.
+    pub lowest: f64,
+    /// The share of the window with the most.
+    pub highest: f64,
+    /// The covered cells of all windows; 0 with a refusal.
+    pub covered: i64,
+}
+
+impl DensityReport {
+    /// A refusal that says nothing but its number.
+    pub fn refused(number: i32) -> DensityReport {
+        DensityReport { number, value: 0, lowest: 0.0, highest: 0.0, covered: 0 }
+    }
+
+    /// The refusal of a list that is shorter than the number of windows.
+    pub fn short(windows: usize) -> DensityReport {
+        DensityReport { value: windows as i64, ..DensityReport::refused(number::SHORT) }
+    }
+}
+
+/// The same in every bit, so that -0.0 is not taken for 0.0.
+impl PartialEq for DensityReport {
+    fn eq(&self, other: &DensityReport) -> bool {
+        let bits = |report: &DensityReport| (report.lowest.to_bits(), report.highest.to_bits());
+        let whole = |report: &DensityReport| (report.number, report.value, report.covered);
+        whole(self) == whole(other) && bits(self) == bits(other)
     }
 }
 
@@ -97,6 +137,19 @@ extern "C" {
         list: *mut i32,
         room: usize,
     ) -> Answer;
+    #[rustfmt::skip]
+    fn ush_density(
+        table: *const i32,
+        words: usize,
+        left: i32,
+        bottom: i32,
+        right: i32,
+        top: i32,
+        width: i32,
+        height: i32,
+        shares: *mut f64,
+        room: usize,
+    ) -> DensityReport;
     fn ush_create(table: *mut i32, words: usize, left: i32, bottom: i32, right: i32, top: i32, label: i32) -> Answer;
     fn ush_delete(table: *mut i32, words: usize, x: i32, y: i32) -> Answer;
     fn ush_save(table: *const i32, words: usize, bytes: *mut u8, room: usize) -> Answer;
@@ -144,6 +197,13 @@ pub fn search(table: &[i32], left: i32, bottom: i32, right: i32, top: i32) -> An
 /// Lists the tiles that share a cell with the area, in directed order; value: how many.
 pub fn enumerate(table: &[i32], left: i32, bottom: i32, right: i32, top: i32, list: &mut [i32]) -> Answer {
     unsafe { ush_enumerate(table.as_ptr(), table.len(), left, bottom, right, top, list.as_mut_ptr(), list.len()) }
+}
+
+/// Writes how much of each window of the area is metal; value: how many windows.
+pub fn density(table: &[i32], area: Rect, width: i32, height: i32, shares: &mut [f64]) -> DensityReport {
+    let Rect { left, bottom, right, top } = area;
+    let (words, room) = (table.len(), shares.len());
+    unsafe { ush_density(table.as_ptr(), words, left, bottom, right, top, width, height, shares.as_mut_ptr(), room) }
 }
 
 /// Adds a solid; value: its record.

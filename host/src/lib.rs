@@ -13,6 +13,7 @@ pub mod asks;
 #[allow(unsafe_code)]
 pub mod calls;
 pub mod damage;
+pub mod density;
 pub mod forged;
 pub mod layouts;
 pub mod lent;
@@ -26,6 +27,7 @@ pub mod tables;
 pub mod tally;
 pub mod words;
 
+pub use density::{Densities, Density};
 pub use plane::{Plane, Side, MOST_SOLIDS};
 pub use rects::{Rect, Tile};
 pub use refusal::{BadRecord, LoadRefusal, Refusal};

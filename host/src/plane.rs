@@ -2,6 +2,7 @@
 //! table is sound at all times, and the refusals for size and soundness are met only where words come in.
 use crate::answers::SAVED_BYTES;
 use crate::calls;
+use crate::density::Densities;
 use crate::rects::{Rect, Tile};
 use crate::refusal::{LoadRefusal, Refusal};
 use crate::words::{most_solids, records_for, FREE, KIND, MOST_RECORDS, NO_TILE, RECORD_WORDS, STITCHES};
@@ -240,6 +241,37 @@ impl Plane {
         let mut list = vec![0; self.records()];
         let count = call(&mut list).result()?;
         Ok(list[..count as usize].iter().map(|&record| record as usize).collect())
+    }
+
+    /// How much of each window of the area is metal. Windows have this width and height, which divide the area's sides,
+    /// and are taken row by row from the top and each row from left to right. The shares take eight bytes a window:
+    /// where there is no memory for them the refusal is [`Refusal::Short`], which tells how many windows there are.
+    ///
+    /// ```
+    /// use ushanderi_host::{Density, Plane, Rect, Refusal};
+    ///
+    /// let mut plane = Plane::with_room(10)?;
+    /// plane.create(Rect::new(0, 0, 10, 10), 1)?;
+    /// plane.create(Rect::new(20, 5, 30, 10), 2)?;
+    ///
+    /// let area = Rect::new(0, 0, 30, 10);
+    /// let report = plane.density(area, 10, 10)?;
+    /// assert_eq!(report.shares, [1.0, 0.0, 0.5]);
+    /// assert!(report.windows().eq([Density::Filled, Density::Bare, Density::Share(0.5)]));
+    /// assert_eq!((report.lowest, report.highest, report.covered), (0.0, 1.0, 150));
+    /// assert_eq!(plane.density(area, 20, 10), Err(Refusal::Step));
+    /// assert_eq!(plane.density(Rect::PLANE, 1, 1), Err(Refusal::Short { needed: 1 << 50 }));
+    /// # Ok::<(), Refusal>(())
+    /// ```
+    pub fn density(&self, area: Rect, width: i32, height: i32) -> Result<Densities, Refusal> {
+        let windows = area.windows(width, height).map_or(0, |windows| windows.len());
+        let mut shares = Vec::new();
+        // Without memory the list stays empty, and the server finds it too short.
+        if shares.try_reserve_exact(windows).is_ok() {
+            shares.resize(windows, 0.0);
+        }
+        let report = calls::density(&self.words, area, width, height, &mut shares).result()?;
+        Ok(Densities { shares, lowest: report.lowest, highest: report.highest, covered: report.covered as u64 })
     }
 
     /// Draws a solid; its record. The solids that are there keep their records.

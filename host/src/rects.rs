@@ -46,6 +46,38 @@ impl Rect {
         self.left < other.right && other.left < self.right && self.bottom < other.top && other.bottom < self.top
     }
 
+    /// The cells that lie in both, if there are any.
+    pub fn common(&self, other: &Rect) -> Option<Rect> {
+        let both = Rect {
+            left: self.left.max(other.left),
+            bottom: self.bottom.max(other.bottom),
+            right: self.right.min(other.right),
+            top: self.top.min(other.top),
+        };
+        self.shares_cell(other).then_some(both)
+    }
+
+    /// How many cells a rectangle in the plane has.
+    pub fn cells(&self) -> u64 {
+        (self.right - self.left) as u64 * (self.top - self.bottom) as u64
+    }
+
+    /// The windows of this width and height, row by row from the top and each row from left to right; nothing where
+    /// they do not divide the rectangle, or it is no part of the plane.
+    pub fn windows(self, width: i32, height: i32) -> Option<impl ExactSizeIterator<Item = Rect>> {
+        let divides = |step: i32, low: i32, high: i32| step >= 1 && (high - low) % step == 0;
+        let Rect { left, bottom, right, top } = self;
+        if !self.keeps_limits() || !divides(width, left, right) || !divides(height, bottom, top) {
+            return None;
+        }
+        let (columns, rows) = (((right - left) / width) as usize, ((top - bottom) / height) as usize);
+        Some((0..columns * rows).map(move |number| {
+            let (row, column) = (number / columns, number % columns);
+            let (left, top) = (left + column as i32 * width, top - row as i32 * height);
+            Rect::new(left, top - height, left + width, top)
+        }))
+    }
+
     /// The cells that the stitches tr, rt, bl and lb are about, in this order.
     pub fn stitch_cells(&self) -> [(i32, i32); 4] {
         [

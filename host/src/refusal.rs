@@ -1,5 +1,5 @@
 //! The server's refusals as Rust errors.
-use crate::calls::{number, Answer};
+use crate::calls::{number, Answer, DensityReport};
 use std::error::Error;
 use std::fmt;
 
@@ -46,6 +46,8 @@ pub enum Refusal {
     File,
     /// No record of the table is free.
     Room,
+    /// A window's side is below 1, or does not divide the area's.
+    Step,
 }
 
 impl fmt::Display for Refusal {
@@ -63,6 +65,7 @@ impl fmt::Display for Refusal {
             Refusal::Short { needed } => write!(out, "the list is shorter than the {needed} entries needed"),
             Refusal::File => write!(out, "the saved bytes are no whole records"),
             Refusal::Room => write!(out, "no record of the table is free"),
+            Refusal::Step => write!(out, "a window's sides are 1 or more and divide the area's"),
         }
     }
 }
@@ -72,22 +75,7 @@ impl Error for Refusal {}
 impl Answer {
     /// The value of an answer that is no refusal.
     pub fn result(self) -> Result<i32, Refusal> {
-        match self.number {
-            number::DONE => Ok(self.value),
-            number::SIZE => Err(Refusal::Size),
-            number::UNSOUND => Err(Refusal::Unsound),
-            number::POINT => Err(Refusal::Point),
-            number::RECT => Err(Refusal::Rect),
-            number::LABEL => Err(Refusal::Label),
-            number::OCCUPIED => Err(Refusal::Occupied { by: self.value as usize }),
-            number::FULL => Err(Refusal::Full),
-            number::SPACE => Err(Refusal::Space),
-            number::SIDE => Err(Refusal::Side),
-            number::SHORT => Err(Refusal::Short { needed: self.value as usize }),
-            number::FILE => Err(Refusal::File),
-            number::ROOM => Err(Refusal::Room),
-            other => panic!("{other} is no number of an answer"),
-        }
+        refusal(self.number, self.value.into()).map_or(Ok(self.value), Err)
     }
 
     /// The same for a load, whose refusals tell which record was refused.
@@ -102,6 +90,35 @@ impl Answer {
             _ => self.result().map(|count| count as usize).map_err(LoadRefusal::Nothing),
         }
     }
+}
+
+impl DensityReport {
+    /// The report, if it is no refusal.
+    pub fn result(self) -> Result<DensityReport, Refusal> {
+        refusal(self.number, self.value).map_or(Ok(self), Err)
+    }
+}
+
+/// The refusal of this number and value, if the number is one's.
+fn refusal(number: i32, value: i64) -> Option<Refusal> {
+    let refusal = match number {
+        number::DONE => return None,
+        number::SIZE => Refusal::Size,
+        number::UNSOUND => Refusal::Unsound,
+        number::POINT => Refusal::Point,
+        number::RECT => Refusal::Rect,
+        number::LABEL => Refusal::Label,
+        number::OCCUPIED => Refusal::Occupied { by: value as usize },
+        number::FULL => Refusal::Full,
+        number::SPACE => Refusal::Space,
+        number::SIDE => Refusal::Side,
+        number::SHORT => Refusal::Short { needed: value as usize },
+        number::FILE => Refusal::File,
+        number::ROOM => Refusal::Room,
+        number::STEP => Refusal::Step,
+        other => panic!("{other} is no number of an answer"),
+    };
+    Some(refusal)
 }
 
 /// Why a saved layout was not loaded.

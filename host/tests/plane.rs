@@ -3,9 +3,10 @@ use std::collections::HashSet;
 use ushanderi_host::calls::{number, Answer};
 use ushanderi_host::random::Random;
 use ushanderi_host::rects::{tiles, Solid};
-use ushanderi_host::{answers, asks, BadRecord, LoadRefusal, Plane, Rect, Refusal, Side, Tile};
+use ushanderi_host::{answers, asks, BadRecord, Densities, Density, LoadRefusal, Plane, Rect, Refusal, Side, Tile};
 
 const ROOM: usize = 30;
+const MOST_WINDOWS: usize = 1_000;
 const STEPS: usize = 600;
 const SIDES: [Side; 4] = [Side::Right, Side::Left, Side::Top, Side::Bottom];
 
@@ -24,6 +25,7 @@ fn a_long_history() {
         }
         assert_eq!(plane.check(), Ok(picture.len()));
         ask(&plane, &picture, &mut random);
+        ask_density(&plane, &picture, &mut random);
         come_back(&plane, &picture);
     }
 }
@@ -58,6 +60,34 @@ fn ask(plane: &Plane, picture: &[Solid], random: &mut Random) {
     let met = answers::search(picture, &area).map(|met| met.map(|(solid, _)| solid.rect));
     let searched = plane.search(area).map(|met| met.and_then(|record| plane.tile(record)).map(|tile| tile.rect));
     assert_eq!(searched.ok(), met.ok());
+}
+
+fn ask_density(plane: &Plane, picture: &[Solid], random: &mut Random) {
+    let (area, width, height) = asks::windows(&tiles(picture), random);
+    if area.windows(width, height).is_some_and(|windows| windows.len() > MOST_WINDOWS) {
+        return;
+    }
+    let (report, shares) = answers::density(picture, area, width, height, MOST_WINDOWS);
+    let wanted = report.result().map(|report| Densities {
+        shares,
+        lowest: report.lowest,
+        highest: report.highest,
+        covered: report.covered as u64,
+    });
+    assert_eq!(plane.density(area, width, height), wanted);
+}
+
+/// The least and the most that a window can have which is neither bare nor filled, up to the whole plane.
+#[test]
+fn a_share_tells_the_density() {
+    for cells in [1, 2, 3, 1_000, (1 << 50) - 1, 1 << 50] {
+        for covered in [0, 1, cells - 1, cells] {
+            let density = Density::of(covered, cells);
+            assert_eq!(density == Density::Bare, covered == 0);
+            assert_eq!(density == Density::Filled, covered == cells);
+            assert_eq!(Density::told_by(density.share()), density);
+        }
+    }
 }
 
 fn come_back(plane: &Plane, picture: &[Solid]) {

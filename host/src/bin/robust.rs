@@ -1,5 +1,5 @@
 //! The long run: millions of calls through the C names, on sound, damaged and random tables, each compared with the
-//! plain program's answer on a copy. `robust [CALLS]`, eleven million where no number is given. The comparison
+//! plain program's answer on a copy. `robust [CALLS]`, twelve million where no number is given. The comparison
 //! runs tie the plain program to the rules; here the amount counts.
 //!
 //! The slices lent here lie between words that are not lent. The same calls on memory that ends at a page that cannot
@@ -10,6 +10,7 @@ use std::process::ExitCode;
 use ushanderi_host::answers::{self, SAVED_BYTES};
 use ushanderi_host::calls::{self, number, Answer};
 use ushanderi_host::damage::{Damage, WORD_DAMAGES};
+use ushanderi_host::density::bits;
 use ushanderi_host::forged::FORGERIES;
 use ushanderi_host::lent::Lent;
 use ushanderi_host::random::Random;
@@ -19,9 +20,11 @@ use ushanderi_host::tally::{agree, Tally};
 use ushanderi_host::words::*;
 use ushanderi_host::{asks, plain};
 
-const CALLS: usize = 11_000_000;
+const CALLS: usize = 12_000_000;
 /// How many times every call is made on one table.
 const TURNS: usize = 24;
+/// No list is lent that takes more windows.
+const MOST_WINDOWS: usize = 400;
 
 /// A lent table, and tiles to make questions from.
 struct Lot {
@@ -32,7 +35,7 @@ struct Lot {
 /// Makes one call and compares it; the answer's number.
 type Try = fn(&Lot, &mut Random) -> Result<i32, String>;
 
-const TRIES: [(&str, Try); 11] = [
+const TRIES: [(&str, Try); 12] = [
     ("fresh", fresh),
     ("check", check),
     ("find", find),
@@ -40,6 +43,7 @@ const TRIES: [(&str, Try); 11] = [
     ("neighbours", neighbours),
     ("search", search),
     ("enumerate", enumerate),
+    ("density", density),
     ("create", create),
     ("delete", delete),
     ("save", save),
@@ -103,7 +107,7 @@ fn same(answer: Answer, wanted: Answer, question: String) -> Result<i32, String>
 }
 
 /// A call that only reads, on a copy of the table.
-fn reading(lot: &Lot, call: impl FnOnce(&[i32]) -> Answer) -> Result<Answer, String> {
+fn reading<T>(lot: &Lot, call: impl FnOnce(&[i32]) -> T) -> Result<T, String> {
     let mut lent = Lent::new(&lot.table, 7);
     let answer = call(lent.for_reading());
     lent.after("the table", 0..0)?;
@@ -182,6 +186,22 @@ fn search(lot: &Lot, random: &mut Random) -> Result<i32, String> {
     let answer = reading(lot, |table| calls::search(table, area.left, area.bottom, area.right, area.top))?;
     let wanted = plain::search(&lot.table, area.left, area.bottom, area.right, area.top);
     same(answer, wanted, format!("{area:?}"))
+}
+
+/// Where there are more windows than any list takes, the answer still comes at once.
+fn density(lot: &Lot, random: &mut Random) -> Result<i32, String> {
+    let (area, width, height) = asks::windows(&lot.tiles, random);
+    let windows = area.windows(width, height).map_or(2, |windows| windows.len());
+    let old = vec![-9.0; asks::room(windows.min(MOST_WINDOWS), random)];
+    let mut shares = Lent::new(&old, 7.0);
+    let report = reading(lot, |table| calls::density(table, area, width, height, shares.for_writing()))?;
+    let mut plain_shares = old.clone();
+    let wanted = plain::density(&lot.table, area, width, height, &mut plain_shares);
+    let about = || format!("{area:?}, {width} by {height}, a list of {}", old.len());
+    let same_shares = bits(shares.after("the shares", 0..old.len())?) == bits(&plain_shares);
+    agree(same_shares, || format!("{}: other shares", about()))?;
+    agree(report == wanted, || format!("{}: {report:?}, the plain program {wanted:?}", about()))?;
+    Ok(report.number)
 }
 
 fn create(lot: &Lot, random: &mut Random) -> Result<i32, String> {

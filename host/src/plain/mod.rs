@@ -1,11 +1,12 @@
 //! The server's calls as ordinary safe Rust, by the same methods: the proved code is timed against it. The functions
 //! here have the signatures of [`crate::calls`]; the inner work, on tables known to be sound, is in the submodules.
 pub mod check;
+pub mod density;
 pub mod edit;
 pub mod saved;
 pub mod seek;
 
-use crate::calls::{number, Answer};
+use crate::calls::{number, Answer, DensityReport};
 use crate::rects::Rect;
 use crate::words::*;
 use seek::{Seen, Walk};
@@ -122,6 +123,21 @@ fn write(list: &mut [i32], walk: &impl Walk) -> Answer {
         count += 1;
     });
     Answer::done(count)
+}
+
+/// Writes how much of each window of the area is metal; value: how many windows.
+pub fn density(words: &[i32], area: Rect, width: i32, height: i32, shares: &mut [f64]) -> DensityReport {
+    let table = match sound_area(words, &area) {
+        Ok((table, _)) => table,
+        Err(refusal) => return DensityReport::refused(refusal.number),
+    };
+    let Some(windows) = area.windows(width, height).map(|windows| windows.len()) else {
+        return DensityReport::refused(number::STEP);
+    };
+    match shares.get_mut(..windows) {
+        Some(shares) => density::write(table, seek::start(table, NO_TILE), &area, width, height, shares),
+        None => DensityReport::short(windows),
+    }
 }
 
 /// Adds a solid; value: its record.

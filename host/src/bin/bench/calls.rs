@@ -1,18 +1,19 @@
 //! The whole calls, each with its check of the table.
 use crate::timing::{consumed, medians, on_copies, repeated, Medians};
-use crate::work::{nth, Work};
+use crate::work::{nth, Work, LAYOUT};
 use crate::Measure;
 use std::hint::black_box;
-use ushanderi_host::calls::Answer;
+use ushanderi_host::calls::{Answer, DensityReport};
 use ushanderi_host::rects::{Rect, Solid};
 use ushanderi_host::{answers, calls, plain, rects};
 
-pub const MEASURES: [Measure; 9] = [
+pub const MEASURES: [Measure; 10] = [
     ("check", check),
     ("find", find),
     ("search", search),
     ("neighbours", neighbours),
     ("enumerate", enumerate),
+    ("density", density),
     ("create", create),
     ("delete", delete),
     ("save", save),
@@ -23,8 +24,13 @@ pub const CHECK_AND_PASS: [Measure; 1] = [("check", check_and_pass)];
 
 const LABEL: i32 = 1;
 
+/// A window's side, and how many windows the layout has.
+const WINDOW: i32 = 1_000;
+const WINDOWS: usize = 400;
+
 type Search = fn(&[i32], i32, i32, i32, i32) -> Answer;
 type Enumerate = fn(&[i32], i32, i32, i32, i32, &mut [i32]) -> Answer;
+type Density = fn(&[i32], Rect, i32, i32, &mut [f64]) -> DensityReport;
 type Create = fn(&mut [i32], i32, i32, i32, i32, i32) -> Answer;
 
 fn check(work: &Work) -> Medians {
@@ -109,6 +115,22 @@ fn enumerate(work: &Work) -> Medians {
     };
     medians(&mut by(calls::enumerate), &mut by(plain::enumerate), &mut |times| {
         repeated(times, |_| consumed(answers::enumerate(black_box(&work.tiles), &Rect::PLANE)))
+    })
+}
+
+/// The whole layout in windows.
+fn density(work: &Work) -> Medians {
+    let by = |density: Density| {
+        let mut shares = vec![0.0; WINDOWS];
+        move |times| {
+            repeated(times, |_| {
+                let report = density(black_box(&work.table), LAYOUT, WINDOW, WINDOW, black_box(&mut shares));
+                consumed(report);
+            })
+        }
+    };
+    medians(&mut by(calls::density), &mut by(plain::density), &mut |times| {
+        repeated(times, |_| consumed(answers::density(black_box(&work.solids), LAYOUT, WINDOW, WINDOW, WINDOWS)))
     })
 }
 

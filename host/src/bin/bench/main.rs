@@ -1,11 +1,12 @@
 //! How long each call takes, as ratios to the same method in plain Rust and to the rectangle-list program, at three
 //! sizes. All three, and all sizes, are timed in turns within one run, so that what disturbs one disturbs the others.
-//! Then the layouts that are hardest on an edit, against the check of the same table. The feature `inner` adds the calls'
-//! inner work, without the check of the table.
+//! Then the density report by the number of windows, and the layouts that are hardest on an edit, against the check of
+//! the same table. The feature `inner` adds the calls' inner work, without the check of the table.
 //!
 //! `bench [--markdown] [--quick]`: `--markdown` prints the ratios alone, as the README quotes them; `--quick` takes so
 //! few samples that it tells only whether everything still runs.
 mod calls;
+mod density;
 #[cfg(feature = "inner")]
 mod inner;
 mod report;
@@ -42,6 +43,10 @@ fn main() -> ExitCode {
     table(form, "whole call", "pass", &calls::CHECK_AND_PASS, &works);
     #[cfg(feature = "inner")]
     table(form, "inner work", "list", &inner::MEASURES, &works);
+    form.density_head();
+    for sheet in density::sheets(&works[SIZES.len() - 1]) {
+        form.density_row(sheet.name, &sheet.measure(timing::passes()));
+    }
     form.worst_head();
     for layout in worst::LAYOUTS {
         let measured = layout.measure(timing::passes());

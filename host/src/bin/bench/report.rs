@@ -1,4 +1,5 @@
 //! The measured times as tables: one line for each size with times and ratios, or one for each call with ratios alone.
+use crate::density::{windows, Ratios};
 use crate::timing::{median, Medians};
 use crate::worst::{Beyond, BRANCHES};
 use crate::SIZES;
@@ -65,6 +66,33 @@ impl Form {
                 );
             }
             Form::Markdown => println!("| {layout} | {call} | {} |", ratios.join(" | ")),
+        }
+    }
+
+    /// The density report, by the number of windows.
+    pub fn density_head(self) {
+        let windows = windows();
+        match self {
+            Form::Times => {
+                println!("\nThe density report at {windows:?} windows: to plain, then work beyond the check in checks")
+            }
+            Form::Markdown => {
+                let of = |what: &str| windows.map(|windows| format!(" {what}, {windows} |")).concat();
+                println!("\n| density report |{}{}", of("to plain"), of("checks"));
+                println!("|---|{}", "--:|".repeat(2 * windows.len()));
+            }
+        }
+    }
+
+    /// One layout: its passes at each number of windows.
+    pub fn density_row(self, layout: &str, passes: &[Vec<Ratios>]) {
+        let figures = |figure: fn(&Ratios) -> f64| passes.iter().map(move |passes| median(passes.iter().map(figure)));
+        let ratios: Vec<String> = figures(|pass| pass.to_plain).chain(figures(|pass| pass.checks)).map(short).collect();
+        match self {
+            Form::Times => {
+                println!("{layout:>29} {}", ratios.iter().map(|ratio| format!("{ratio:>8}")).collect::<String>())
+            }
+            Form::Markdown => println!("| {layout} | {} |", ratios.join(" | ")),
         }
     }
 

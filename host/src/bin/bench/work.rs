@@ -10,6 +10,8 @@ use ushanderi_host::words::records_for;
 
 /// The layout's side, in cells.
 const SIDE: i32 = 20_000;
+/// All of the layout.
+pub const LAYOUT: Rect = Rect::new(0, 0, SIDE, SIDE);
 const QUESTIONS: usize = 64;
 
 pub struct Work {

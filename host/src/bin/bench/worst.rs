@@ -103,16 +103,25 @@ pub struct Worst {
     list: Vec<i32>,
 }
 
+/// The table of these solids, with room for no other.
+pub fn loaded(solids: &[Solid]) -> Vec<i32> {
+    let mut table = vec![0; RECORD_WORDS * records_for(solids.len())];
+    let answer = calls::load(&mut table, &answers::save(solids));
+    assert!(answer == Answer::done(solids.len()), "the layout loads");
+    table
+}
+
 impl Layout {
+    /// The branches, and the trunk as the last.
+    pub fn solids(&self, count: usize) -> Vec<Solid> {
+        let rects = (0..count as i32).map(self.branch).chain([(self.trunk)(count as i32)]);
+        rects.map(|rect| Solid { rect, label: LABEL }).collect()
+    }
+
     fn build(&self, count: usize) -> Worst {
-        let trunk = (self.trunk)(count as i32);
-        let rects = (0..count as i32).map(self.branch).chain([trunk]);
-        let solids: Vec<Solid> = rects.map(|rect| Solid { rect, label: LABEL }).collect();
-        let records = records_for(solids.len());
-        let mut table = vec![0; RECORD_WORDS * records];
-        let loaded = calls::load(&mut table, &answers::save(&solids));
-        assert!(loaded == Answer::done(solids.len()), "the layout loads");
-        Worst { table, trunk, list: vec![0; records] }
+        let table = loaded(&self.solids(count));
+        let list = vec![0; table.len() / RECORD_WORDS];
+        Worst { table, trunk: (self.trunk)(count as i32), list }
     }
 
     /// The passes of each call at each number of branches.

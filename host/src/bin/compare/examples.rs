@@ -23,12 +23,13 @@ const PICTURES: [(&[Solid], usize); 6] =
     [(&[], 1), (&[A], 4), (&[A, B], 5), (&[A, B, C], 8), (&[A, B, C, GAP], 7), (&[WHOLE], 0)];
 
 /// All examples, call by call: a call that the archive does not have yet is left out here, with its section below.
-const EXAMPLES: [(&str, &[Example]); 8] = [
+const EXAMPLES: [(&str, &[Example]); 9] = [
     ("fresh", FRESH),
     ("find", FIND),
     ("neighbours", NEIGHBOURS),
     ("search", SEARCH),
     ("enumerate", ENUMERATE),
+    ("density", DENSITY),
     ("create", CREATE),
     ("delete", DELETE),
     ("save and load", SAVE_AND_LOAD),
@@ -155,6 +156,38 @@ fn listed(left: i32, bottom: i32, right: i32, top: i32) -> Told {
     let mut list = [0; 16];
     let answer = calls::enumerate(&abc(), left, bottom, right, top, &mut list);
     lefts(&abc(), &list, answer)
+}
+
+/// Number, value, covered cells, lowest and highest share, then the list; shares in percent.
+const DENSITY: &[Example] = &[
+    ("10 by 10", || shared(AROUND, 10, 10, 6), &[0, 6, 300, 0, 100, 25, 50, 25, 100, 0, 100]),
+    ("one window, a longer list", || shared(AROUND, 30, 20, 3), &[0, 1, 300, 50, 50, 50, KEPT, KEPT]),
+    ("A alone, 5 by 10: filled", || shared(A.rect, 5, 10, 2), &[0, 2, 100, 100, 100, 100, 100]),
+    ("the gap, 10 by 5: bare", || shared(GAP.rect, 10, 5, 2), &[0, 2, 0, 0, 0, 0, 0]),
+    ("a list shorter by one: SHORT", || shared(AROUND, 15, 10, 3), &[10, 4, 0, 0, 0, KEPT, KEPT, KEPT]),
+    ("7 by 10: STEP", || shared(AROUND, 7, 10, 1), &[13, 0, 0, 0, 0, KEPT]),
+    ("60 by 20, wider than the area: STEP", || shared(AROUND, 60, 20, 1), &[13, 0, 0, 0, 0, KEPT]),
+    ("10 by 0, and no list: STEP", || shared(AROUND, 10, 0, 0), &[13, 0, 0, 0, 0]),
+    ("no area, 0 by 0: RECT", || shared(Rect::new(0, 0, 0, 10), 0, 0, 1), &[4, 0, 0, 0, 0, KEPT]),
+    ("every cell of the plane: SHORT, and 2^50 windows", every_cell, &[10, 1]),
+];
+
+/// All of A, B and C.
+const AROUND: Rect = Rect::new(0, 0, 30, 20);
+/// What stands in the list before the report.
+const KEPT: i32 = -100;
+
+fn shared(area: Rect, width: i32, height: i32, room: usize) -> Told {
+    let percent = |share: f64| (100.0 * share) as i32;
+    let mut list = vec![f64::from(KEPT) / 100.0; room];
+    let report = calls::density(&abc(), area, width, height, &mut list);
+    let shares = [report.lowest, report.highest].into_iter().chain(list).map(percent);
+    [report.number, report.value as i32, report.covered as i32].into_iter().chain(shares).collect()
+}
+
+fn every_cell() -> Told {
+    let report = calls::density(&abc(), PLANE, 1, 1, &mut []);
+    vec![report.number, i32::from(report.value == 1 << 50)]
 }
 
 const CREATE: &[Example] = &[

@@ -6,7 +6,7 @@ use crate::create::{self, Create};
 use crate::delete::{self, Delete};
 use crate::fresh::fresh_plane;
 use crate::load::{self, Load};
-use crate::{check, edits, enumerate, find, neighbours, save, scaled, search, view, Report};
+use crate::{check, density, edits, enumerate, find, neighbours, save, scaled, search, view, Report};
 use ushanderi_host::calls::{self, number, Answer};
 use ushanderi_host::random::Random;
 use ushanderi_host::rects::{solids_of, tiles, Solid};
@@ -26,7 +26,8 @@ const AMOUNTS: [(usize, usize, usize, usize, usize); 5] = [
 ];
 
 /// Questions asked of a table in the middle of its history.
-const ASKS: [Ask; 7] = [check::ask, find::ask, view::ask, neighbours::ask, search::ask, enumerate::ask, save::ask];
+const ASKS: [Ask; 8] =
+    [check::ask, find::ask, view::ask, neighbours::ask, search::ask, enumerate::ask, density::ask, save::ask];
 
 /// A program that can edit.
 #[derive(Clone, Copy)]

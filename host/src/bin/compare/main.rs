@@ -4,6 +4,7 @@ mod case;
 mod check;
 mod create;
 mod delete;
+mod density;
 mod edits;
 mod enumerate;
 mod examples;
@@ -27,7 +28,7 @@ type Report = Result<Vec<String>, String>;
 type Run = (&'static str, fn(f64) -> Report);
 
 /// A call that the archive does not have yet is left out here, in the examples and in the histories.
-const RUNS: [Run; 13] = [
+const RUNS: [Run; 14] = [
     ("examples", examples::run),
     ("fresh", fresh::run),
     ("check", check::run),
@@ -36,6 +37,7 @@ const RUNS: [Run; 13] = [
     ("neighbours", neighbours::run),
     ("search", search::run),
     ("enumerate", enumerate::run),
+    ("density", density::run),
     ("create", create::run),
     ("delete", delete::run),
     ("save", save::run),

@@ -153,20 +153,19 @@ impl Canvas {
         self.text((FRAME, y), WORDS_SIZE, "words", words);
     }
 
-    /// A line that shows the colour of each label, of as many as there is room for.
-    pub fn legend(&mut self, labels: &[i32]) {
-        let (y, mut x) = (self.next_line(), FRAME + 52.0);
-        self.text((FRAME, y), WORDS_SIZE, "words", "labels:");
-        for (place, label) in labels.iter().enumerate() {
-            let digits = label.to_string();
-            let width = 26.0 + 8.0 * digits.len() as f64;
+    /// A line that shows what each class looks like, of as many as there is room for.
+    pub fn legend(&mut self, title: &str, shown: &[(String, String)]) {
+        let (y, mut x) = (self.next_line(), FRAME + 8.0 * title.len() as f64 - 4.0);
+        self.text((FRAME, y), WORDS_SIZE, "words", title);
+        for (place, (class, words)) in shown.iter().enumerate() {
+            let width = 26.0 + 8.0 * words.len() as f64;
             if x + width > self.width() - 90.0 {
-                let more = format!("and {} more", labels.len() - place);
+                let more = format!("and {} more", shown.len() - place);
                 self.text((x, y), WORDS_SIZE, "words", &more);
                 return;
             }
-            self.rect(Dots { x, y: y - 11.0, width: 12.0, height: 12.0 }, &format!("solid label{label}"));
-            self.text((x + 16.0, y), WORDS_SIZE, "words", &digits);
+            self.rect(Dots { x, y: y - 11.0, width: 12.0, height: 12.0 }, class);
+            self.text((x + 16.0, y), WORDS_SIZE, "words", words);
             x += width;
         }
     }

@@ -1,4 +1,4 @@
-//! The colour of a label: the same in every picture.
+//! The colours of labels and of shares: the same in every picture.
 
 type Colour = [u8; 3];
 
@@ -19,14 +19,35 @@ const FIRST: [Colour; 10] = [
 const STEP: f64 = 137.508;
 /// Fills brighter than this have dark words on them.
 const BRIGHT: f64 = 150.0;
+/// Of a bare window, of one half covered and of a filled one; the others lie between.
+const SHADES: [Colour; 3] = [[0xff, 0xff, 0xff], [0xf4, 0x9a, 0x5a], [0x8e, 0x1b, 0x2e]];
 
 /// The style of a label's solids and of the words on them, as two rules of a style sheet.
 pub fn rules(label: i32) -> String {
     let fill = fill(label);
     let line = fill.map(|part| (f64::from(part) * 0.65) as u8);
-    let [red, green, blue] = fill.map(f64::from);
-    let words = if 0.299 * red + 0.587 * green + 0.114 * blue > BRIGHT { "#2b2f36" } else { "#ffffff" };
+    let words = words_on(fill);
     format!(".label{label} {{ fill: {}; stroke: {} }} .on{label} {{ fill: {words} }}\n", hex(fill), hex(line))
+}
+
+/// The same of the windows that are so many percent metal.
+pub fn shade_rules(percent: usize) -> String {
+    let (from, part) = if percent < 50 { (0, percent) } else { (1, percent - 50) };
+    let between = |place: usize| {
+        let [low, high] = [SHADES[from][place], SHADES[from + 1][place]].map(f64::from);
+        (low + (high - low) * part as f64 / 50.0) as u8
+    };
+    let fill = [0, 1, 2].map(between);
+    format!(".shade{percent} {{ fill: {} }} .on_shade{percent} {{ fill: {} }}\n", hex(fill), words_on(fill))
+}
+
+fn words_on(fill: Colour) -> &'static str {
+    let [red, green, blue] = fill.map(f64::from);
+    if 0.299 * red + 0.587 * green + 0.114 * blue > BRIGHT {
+        "#2b2f36"
+    } else {
+        "#ffffff"
+    }
 }
 
 fn fill(label: i32) -> Colour {

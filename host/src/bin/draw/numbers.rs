@@ -1,6 +1,6 @@
 //! The numbers of an area's tiles in directed order, each in a small box inside its tile, no box on another.
 use crate::canvas::{Canvas, Dots};
-use ushanderi_host::{Plane, Rect, Refusal, Tile};
+use ushanderi_host::{Plane, Rect, Refusal};
 
 /// A tile part whose shorter side has fewer dots cannot be pointed at.
 const LEAST_SIDE: f64 = 4.0;
@@ -12,8 +12,10 @@ const GAP: f64 = 2.0;
 pub fn add(canvas: &mut Canvas, plane: &Plane, area: &Rect, mut taken: Vec<Dots>) -> Result<usize, Refusal> {
     let listed = plane.enumerate(*area)?;
     let tiles = listed.iter().map(|&record| plane.tile(record).expect("an answer names a tile"));
-    let mut parts: Vec<(usize, Dots)> =
-        tiles.enumerate().filter_map(|(place, tile)| Some((place + 1, part(canvas, &tile, area)?))).collect();
+    let mut parts: Vec<(usize, Dots)> = tiles
+        .enumerate()
+        .filter_map(|(place, tile)| Some((place + 1, canvas.dots(&tile.rect.common(area)?)?)))
+        .collect();
     // Small tiles have the least choice and come first.
     parts.sort_by(|(_, one), (_, other)| (one.width * one.height).total_cmp(&(other.width * other.height)));
     let mut left_out = 0;
@@ -31,16 +33,6 @@ pub fn add(canvas: &mut Canvas, plane: &Plane, area: &Rect, mut taken: Vec<Dots>
         }
     }
     Ok(left_out)
-}
-
-fn part(canvas: &Canvas, tile: &Tile, area: &Rect) -> Option<Dots> {
-    let Rect { left, bottom, right, top } = tile.rect;
-    canvas.dots(&Rect {
-        left: left.max(area.left),
-        bottom: bottom.max(area.bottom),
-        right: right.min(area.right),
-        top: top.min(area.top),
-    })
 }
 
 fn box_of(digits: &str, size: f64) -> (f64, f64) {

@@ -3,13 +3,15 @@ use std::fs;
 use std::io::{self, Read};
 use ushanderi_host::Rect;
 
-const USAGE: &str = "usage: draw [FILE] [--stitches] [--area L B R T] [--view L B R T]";
+const USAGE: &str = "usage: draw [FILE] [--stitches] [--area L B R T] [--density W H] [--view L B R T]";
 
 #[derive(Default)]
 pub struct Options {
     file: Option<String>,
     pub stitches: bool,
     pub area: Option<Rect>,
+    /// The width and height of the windows to shade.
+    pub density: Option<(i32, i32)>,
     pub view: Option<Rect>,
 }
 
@@ -20,6 +22,7 @@ impl Options {
             match argument.as_str() {
                 "--stitches" => options.stitches = true,
                 "--area" => options.area = Some(rect(&mut arguments)?),
+                "--density" => options.density = Some(window(&mut arguments)?),
                 "--view" => options.view = Some(rect(&mut arguments)?),
                 flag if flag.starts_with("--") => return Err(format!("{flag} is not known\n{USAGE}")),
                 _ if options.file.is_some() => return Err(format!("one file at most\n{USAGE}")),
@@ -40,8 +43,20 @@ impl Options {
     }
 }
 
+fn number(arguments: &mut impl Iterator<Item = String>, wanted: &str) -> Result<i32, String> {
+    arguments.next().and_then(|word| word.parse().ok()).ok_or(format!("{wanted}\n{USAGE}"))
+}
+
+fn window(arguments: &mut impl Iterator<Item = String>) -> Result<(i32, i32), String> {
+    let mut side = || number(arguments, "a width and a height");
+    match (side()?, side()?) {
+        (width, height) if width >= 1 && height >= 1 => Ok((width, height)),
+        (width, height) => Err(format!("{width} by {height} is no window")),
+    }
+}
+
 fn rect(arguments: &mut impl Iterator<Item = String>) -> Result<Rect, String> {
-    let mut edge = || arguments.next().and_then(|word| word.parse().ok()).ok_or(format!("four edges\n{USAGE}"));
+    let mut edge = || number(arguments, "four edges");
     let rect = Rect::new(edge()?, edge()?, edge()?, edge()?);
     if !rect.keeps_limits() {
         return Err(format!("{rect} is no part of the plane"));

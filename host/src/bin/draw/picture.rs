@@ -1,7 +1,8 @@
-//! What is drawn: strips, solids, stitches, the area with its numbers, and the words below.
+//! What is drawn: strips, solids, stitches, the area with its numbers or its windows, and the words below.
 use crate::canvas::Canvas;
 use crate::options::Options;
 use crate::stitches::Arrows;
+use crate::windows::{self, Windows};
 use crate::{colours, numbers};
 use ushanderi_host::words::EDGE;
 use ushanderi_host::{Plane, Rect, Refusal, Tile};
@@ -14,29 +15,34 @@ const LEAST_LABEL: f64 = 8.5;
 pub fn draw(plane: &Plane, options: &Options) -> Result<String, Refusal> {
     let tile = |record: usize| (record, plane.tile(record).expect("an answer names a tile"));
     let tiles: Vec<(usize, Tile)> = plane.enumerate(Rect::PLANE)?.into_iter().map(tile).collect();
-    let mut canvas = Canvas::new(options.view.unwrap_or_else(|| view(&tiles, options.area)));
+    let area = options.area.or(options.density.map(|window| windows::around(around_solids(&tiles), window)));
+    let mut canvas = Canvas::new(options.view.unwrap_or_else(|| view(area.unwrap_or_else(|| around_solids(&tiles)))));
     for solid in [false, true] {
         let drawn = tiles.iter().filter(|(_, tile)| tile.is_solid() == solid);
-        drawn.for_each(|(_, tile)| add_tile(&mut canvas, tile, options.area));
+        drawn.for_each(|(_, tile)| add_tile(&mut canvas, tile, area));
     }
+    let windows = area.zip(options.density).map(|(area, window)| Windows::of(plane, area, window)).transpose()?;
+    let windows_left_out = windows.as_ref().map_or(0, |windows| windows.add(&mut canvas, &tiles));
     let mut arrows = Arrows::default();
     if options.stitches {
         tiles.iter().for_each(|(record, tile)| arrows.add(&mut canvas, plane, *record, tile));
     }
     let mut numbers_left_out = 0;
-    if let Some(area) = options.area {
+    if let Some(area) = area.filter(|_| windows.is_none()) {
         canvas.dots(&area).into_iter().for_each(|dots| canvas.rect(dots, "area"));
         numbers_left_out = numbers::add(&mut canvas, plane, &area, arrows.taken)?;
     }
     let labels = labels_in_view(&canvas, &tiles);
     add_words(&mut canvas, &tiles, &labels);
-    add_what_is_left_out(&mut canvas, numbers_left_out, arrows.left_out);
-    Ok(canvas.finish(&labels.iter().map(|&label| colours::rules(label)).collect::<String>()))
+    windows.iter().for_each(|windows| windows.add_words(&mut canvas));
+    let left_out = [("numbers", numbers_left_out), ("tiles' stitches", arrows.left_out), ("windows", windows_left_out)];
+    add_what_is_left_out(&mut canvas, &left_out);
+    let rules: String = labels.iter().map(|&label| colours::rules(label)).collect();
+    Ok(canvas.finish(&(rules + &windows.map_or(String::new(), |windows| windows.rules()))))
 }
 
-/// The area, or the smallest rectangle around all solids, with a margin and cut to the plane; some middle part of an
-/// empty plane.
-fn view(tiles: &[(usize, Tile)], area: Option<Rect>) -> Rect {
+/// The smallest rectangle around all solids; some middle part of an empty plane.
+fn around_solids(tiles: &[(usize, Tile)]) -> Rect {
     let solids = tiles.iter().filter(|(_, tile)| tile.is_solid()).map(|(_, tile)| tile.rect);
     let around = solids.reduce(|one, other| Rect {
         left: one.left.min(other.left),
@@ -44,7 +50,12 @@ fn view(tiles: &[(usize, Tile)], area: Option<Rect>) -> Rect {
         right: one.right.max(other.right),
         top: one.top.max(other.top),
     });
-    let Rect { left, bottom, right, top } = area.or(around).unwrap_or(Rect::new(-8, -8, 8, 8));
+    around.unwrap_or(Rect::new(-8, -8, 8, 8))
+}
+
+/// The rectangle with a margin, cut to the plane.
+fn view(rect: Rect) -> Rect {
+    let Rect { left, bottom, right, top } = rect;
     let margin = ((right - left).max(top - bottom) / MARGIN_PART).max(3);
     Rect {
         left: (left - margin).max(-EDGE),
@@ -54,7 +65,7 @@ fn view(tiles: &[(usize, Tile)], area: Option<Rect>) -> Rect {
     }
 }
 
-/// A solid inside the area has a number and needs no label beside it.
+/// A solid inside the area has a number or is shaded, and needs no label beside it.
 fn add_tile(canvas: &mut Canvas, tile: &Tile, area: Option<Rect>) {
     let Some(dots) = canvas.dots(&tile.rect) else { return };
     if !tile.is_solid() {
@@ -65,8 +76,8 @@ fn add_tile(canvas: &mut Canvas, tile: &Tile, area: Option<Rect>) {
     canvas.rect(dots, &format!("solid label{label}"));
     let digits = label.to_string();
     let size = (dots.shorter_side() * 0.6).min(16.0).min(dots.width / (0.65 * digits.len() as f64));
-    let numbered = area.is_some_and(|area| area.shares_cell(&tile.rect));
-    if !numbered && size >= LEAST_LABEL {
+    let marked = area.is_some_and(|area| area.shares_cell(&tile.rect));
+    if !marked && size >= LEAST_LABEL {
         canvas.digits(dots, size, &format!("on{label}"), &digits);
     }
 }
@@ -87,14 +98,15 @@ fn add_words(canvas: &mut Canvas, tiles: &[(usize, Tile)], labels: &[i32]) {
         "in the plane: solids {solids}, space tiles {spaces}; shown: columns {left} to {right}, rows {bottom} to {top}"
     ));
     if !labels.is_empty() {
-        canvas.legend(labels);
+        let shown: Vec<_> = labels.iter().map(|label| (format!("solid label{label}"), label.to_string())).collect();
+        canvas.legend("labels:", &shown);
     }
 }
 
-fn add_what_is_left_out(canvas: &mut Canvas, numbers: usize, stitched: usize) {
-    if numbers + stitched > 0 {
-        canvas.words(&format!(
-            "left out for want of room: numbers {numbers}, tiles' stitches {stitched}; a smaller --view shows more"
-        ));
+fn add_what_is_left_out(canvas: &mut Canvas, left_out: &[(&str, usize)]) {
+    let some: Vec<String> =
+        left_out.iter().filter(|(_, count)| *count > 0).map(|(what, count)| format!("{what} {count}")).collect();
+    if !some.is_empty() {
+        canvas.words(&format!("left out for want of room: {}; a smaller --view shows more", some.join(", ")));
     }
 }

@@ -32,7 +32,7 @@ pub record PartFits (A : Area) (w h : ℕ) (P : Area) : Type 0 where
 abbrev pub AddsPart : List Float → List Float → Area → ℕ → ℕ → Area → Type 0
 AddsPart old new A w h P = let p = cellsIn A w h P in Grow (windowsOf A w h) old new p p
 
--- the larger of two numbers, where the first is smaller; the smaller of two, where the second is
+-- cuts by two edges, one at a time: omega takes only a few of them together
 above : (b t u from : ℕ) → from ≡ max b (min t u) → b < from → from ≡ min t u
 above b t u from e l = omega arith
 

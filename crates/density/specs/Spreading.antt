@@ -38,7 +38,7 @@ grow-by : (N : ℕ) (old new : List Float) (p q : ℕ → ℕ) → ((m : ℕ) �
 grow-by N old new p q e g base f c b =
     counts-same base _ _ _ _ (g base f c (λ m h. omega (arith, b m h, e m h))) (λ m h. ap (λ n. f m + n) (e m h))
 
-pub grow-none : (N : ℕ) (old : List Float) (p : ℕ → ℕ) → ((m : ℕ) → m < N → 0 ≡ p m) → Grow N old old p p
+grow-none : (N : ℕ) (old : List Float) (p : ℕ → ℕ) → ((m : ℕ) → m < N → 0 ≡ p m) → Grow N old old p p
 grow-none N old p e base f c b = counts-same base _ _ _ _ c (λ m h. omega (arith, e m h))
 
 -- a part of the area cut to it, and then to a window inside it

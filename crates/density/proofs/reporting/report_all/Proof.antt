@@ -1,4 +1,4 @@
--- `density::windows::report_all` meets its contract: the list takes all tiles of any table, and what is counted becomes the report. Assumes nothing.
+-- `density::reporting::report_all` meets its contract: the list takes all tiles of any table, and what is counted becomes the report. Assumes nothing.
 use mathlib.Core.Path.{sym, subst}
 use Prim.Native.Nat.{_≤_}
 use native.Mathlib.Omega.{arith}
@@ -12,8 +12,8 @@ use Rattle.density.specs.Counts.{Counts}
 use Rattle.density.specs.Summing.{writes-holds}
 use Rattle.density.specs.Spreading.{report-from}
 use borrow.Author.Needs.{needs}
-use Rattle.density.proofs.windows.report_all.Statement.{statement}
-use Rattle.density.proofs.windows.report_all.Tie as tie
+use Rattle.density.proofs.reporting.report_all.Statement.{statement}
+use Rattle.density.proofs.reporting.report_all.Tie as tie
 
 -- there is room for all tiles
 room : (c : tie.After-list-area) → c .list-area .result ≤ length (c .list-area .last .1 .0)

@@ -1,17 +1,14 @@
 -- Sums taken in blocks, backwards, and over a grid; counts by a test. Assumes nothing.
-use mathlib.Core.Path.{_≡_, refl, sym, ap, ap₂, _∙_, subst}
+use mathlib.Core.Path.{_≡_, refl, ap, ap₂, _∙_, subst}
 use mathlib.Core.Bool.{Bool, true, false, not, _&&_, _||_}
 use mathlib.Core.Logic.{_↔_}
-use mathlib.Core.List.{List, [], _∷_}
 use Prim.Native.Nat.{ℕ, zero, suc, _+_, _-_, _*_, _/_, _%_, _≤_, _<_, min, max}
 use native.Mathlib.Nat.{add-zero, add-suc, zero-mul, suc-mul, mul-le-mul-right, mul-add-div-right, mul-add-mod-self-right, div-eq-of-lt, mod-eq-of-lt}
 use native.Mathlib.Omega.{arith}
 use lib.Dec.{T, leb, ltb, leb→le, nleb→lt, ltb→lt, nltb→le}
-use lib.ListN.{length, getD}
 use Rattle.geometry.specs.Cases.{below-suc}
 use Rattle.geometry.specs.Counting.{only, sumTo}
-use Rattle.geometry.specs.Sums.{sum-ext, sum-const, sum-add, sum-head, sum-set, sum-under, under, inb}
-use Rattle.seek.specs.Once.{times, times-here, times-other, times-none}
+use Rattle.geometry.specs.Sums.{sum-ext, sum-add, sum-head, sum-under, under, inb}
 use Rattle.density.specs.Meaning.{anyTo}
 
 pub sum-split : (a b : ℕ) (f : ℕ → ℕ) → sumTo (a + b) f ≡ sumTo a f + sumTo b (λ k. f (a + k))
@@ -120,21 +117,3 @@ sum-cut lo hi l r h k = cut-part lo hi l r (sumTo n (λ k. inb l r (lo + k))) h 
 
     e : sumTo n (λ k. inb l r (lo + k) + under l (lo + k)) ≡ sumTo n (λ k. under r (lo + k))
     e = sum-ext n (λ j p. omega arith)
-
--- ---- sums over the entries of a list
-
-times-more : (k x : ℕ) (w : List ℕ) → times k w ≤ times k (x ∷ w)
-unfolding times
-times-more k x w = omega arith
-
-pub sum-times : (R : ℕ) (g : ℕ → ℕ) (w : List ℕ) → ((k : ℕ) → 1 ≤ times k w → k < R)
-    → sumTo (length w) (λ n. g (getD w n 0)) ≡ sumTo R (λ k. times k w * g k)
-unfolding sumTo
-sum-times R g [] h =
-    omega (arith, sum-const R 0, sum-ext R {f = λ k. times k [] * g k} {g = λ k. 0} (λ k l. rw (times-none, zero-mul) refl))
-sum-times R g (x ∷ w) h =
-    let f : ℕ → ℕ = λ k. times k (x ∷ w) * g k in
-    let e = sum-set R f (λ k. times k w * g k) x (h x (omega (arith, times-here x x w refl)))
-    (λ k l d. ap (λ m. m * g k) (times-other k x w (λ q. d (sym q)))) in
-    let here : f x ≡ g x + times x w * g x = ap (λ m. m * g x) (times-here x x w refl) ∙ omega arith in
-    omega (arith, sum-head (length w) (λ n. g (getD (x ∷ w) n 0)), sum-times R g w (λ k l. h k (omega (arith, times-more k x w))))

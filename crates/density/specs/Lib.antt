@@ -8,7 +8,6 @@ pub mod Counts
 pub mod Blocks
 pub mod Cover
 pub mod Windows
-pub mod Listed
 pub mod Summing
 pub mod Reporting
 pub mod Tallying

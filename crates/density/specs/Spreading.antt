@@ -11,13 +11,15 @@ use Rattle.table.specs.Words.{KIND, num}
 use Rattle.table.specs.Forms.{Forms}
 use Rattle.seek.specs.Meaning.{Area, RectRight, Meets}
 use Rattle.seek.specs.Hanging.{formed}
+use Rattle.seek.specs.Each.{Each}
+use Rattle.seek.specs.Queue.{named}
 use Rattle.density.specs.Meaning.{Steps, windowsOf, windowOf, countOf}
 use Rattle.density.specs.Windows.{Inside, window-inside, window-right}
 use Rattle.density.specs.Cover.{partOf, boxOf, cellsOf, coverOf, cover-none, cover-solid}
 use Rattle.density.specs.Counts.{Counts, counts-same}
 use Rattle.density.specs.Report.{Reports}
 use Rattle.density.specs.declared.windows.Report.{Report}
-use Rattle.density.specs.Summing.{Holds, named, sumNamed, sum-next, sums-all, sums-small, sums-none}
+use Rattle.density.specs.Summing.{sumNamed, sum-next, sums-all, sums-small, sums-none}
 use Rattle.density.specs.Row.{Grow}
 use Rattle.density.specs.Parts.{PartFits, AddsPart, cellsIn}
 
@@ -78,20 +80,20 @@ module _ (t : List ℤ) (f : Forms t) (A : Area) (a : RectRight A) (w h : ℕ) (
   pub space-adds : (k : ℕ) → (num t k KIND ≡ SOLID → ⊥) → (old : List Float) → AddsTile old old t A w h k
   space-adds k n old = grow-none (windowsOf A w h) old (tileIn t A w h k) (λ m l. cover-none t (windowOf A w h m) k n)
 
-  module _ (list : List ℤ) (o : Holds t A list) where
+  module _ (list : List ℤ) (o : Each (Meets t A) (length list) (named list)) where
     pub spread-on : (old mid new : List Float) (j : ℕ) → j < length list → Spreading t A w h list old mid j → AddsTile mid new t A w h (named list j)
         → Spreading t A w h list old new (j + 1)
     spread-on old mid new j l g a′ base c =
         counts-same base _ _ _ _
         (a′ base (λ m. sumNamed t (windowOf A w h m) list j) (g base c)
-        (λ m k. sums-small t f A a list o (windowOf A w h m) (window-right A a w h s m k) (window-inside A a w h s m k) j l))
+        (λ m k. sums-small t f A list o (windowOf A w h m) (window-right A a w h s m k) (window-inside A a w h s m k) j l))
         (λ m k. sym (sum-next j (λ q. coverOf t (windowOf A w h m) (named list q))))
 
     pub spread-ends : (old new : List Float) (j : ℕ) → j ≡ length list → Spreading t A w h list old new j → Spreads old new t A w h
     spread-ends old new j e g base c =
         counts-same base _ _ _ _ (g base c)
         (λ m k. ap (sumNamed t (windowOf A w h m) list) e
-        ∙ sums-all t f A a list o (windowOf A w h m) (window-right A a w h s m k) (window-inside A a w h s m k))
+        ∙ sums-all t f A list o (windowOf A w h m) (window-right A a w h s m k) (window-inside A a w h s m k))
 
 -- a report on a list of counts is one on the list that was lent
 pub report-from : (t : List ℤ) (A : Area) (w h : ℕ) (old mid new : List Float) (f : ℕ → ℕ) (r : Report) → Counts old mid (windowsOf A w h) f

@@ -5,7 +5,7 @@ use crate::spread::spread;
 use crate::windows::Report;
 use crate::windows::count_windows;
 use seek::Area;
-use seek::list_area;
+use seek::gather;
 use table::numbers::MOST;
 ghost use Prim.Native.Nat.{_≤_};
 ghost use lib.ListN.{length};
@@ -16,7 +16,10 @@ ghost use Rattle.seek.specs.Enumerate.{areaOf};
 ghost use Rattle.density.specs.Meaning.{Steps, windowsOf};
 ghost use Rattle.density.specs.Report.{Reports};
 
-// The area's tiles are listed once, from the tile `from` on; each solid's cells are counted in the lent list, window by window, and then each count
+// The most tiles that a table has, and one entry more.
+const ROOM: usize = MOST + 1;
+
+// The area's tiles are gathered once, from the tile `from` on; each solid's cells are counted in the lent list, window by window, and then each count
 // becomes its share.
 pub fn report_all(t: &[i32], out: &mut [f64], from: usize, area: Area, w: u64, h: u64) -> Report
     requires { ⌜ Forms (now t) ⌝ }
@@ -29,8 +32,8 @@ pub fn report_all(t: &[i32], out: &mut [f64], from: usize, area: Area, w: u64, h
 {
     let windows = count_windows(area, w, h);
     clear(out, windows as usize);
-    let mut list = [0i32; MOST];
-    let n = list_area(t, &mut list, from, area);
+    let mut list = [0i32; ROOM];
+    let n = gather(t, &mut list, from, area);
     spread(t, &list[..n], out, area, w, h);
     tally(t, out, area, w, h)
 }

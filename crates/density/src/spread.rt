@@ -12,19 +12,19 @@ use table::numbers::LEFT;
 use table::numbers::RIGHT;
 use table::numbers::SOLID;
 use table::numbers::TOP;
-use table::numbers::ZERO;
 ghost use mathlib.Core.Path.{_≡_};
 ghost use Prim.Native.Nat.{_≤_, _<_};
 ghost use lib.ListN.{length};
 ghost use Rattle.table.specs.Words.{recordsOf};
 ghost use Rattle.table.specs.Forms.{Forms};
 ghost use Rattle.seek.specs.Meaning.{RectRight, Meets};
+ghost use Rattle.seek.specs.Each.{Each};
 ghost use Rattle.seek.specs.Enumerate.{areaOf};
+ghost use Rattle.seek.specs.Queue.{named};
 ghost use Rattle.density.specs.Meaning.{Steps, columnsOf, windowsOf};
 ghost use Rattle.density.specs.Row.{RowFits, AddsRow};
 ghost use Rattle.density.specs.Parts.{PartFits, AddsPart};
 ghost use Rattle.density.specs.Cover.{partOf, boxOf};
-ghost use Rattle.density.specs.Summing.{Holds, Names, named};
 ghost use Rattle.density.specs.Spreading.{AddsTile, Spreads};
 
 // One row of windows. From window n on, which begins at the column `edge`, each gets its part of the columns from left to right, so many rows high.
@@ -106,27 +106,19 @@ fn add_tile(t: &[i32], k: usize, out: &mut [f64], area: Area, columns: u64, w: u
     }
 }
 
-// The record that an entry of a list names.
-fn named(list: &[i32], n: usize) -> usize
-    requires { ⌜ Names (now list) n ⌝ }
-    ensures { λ r. ⌜ r ≡ named (now (list .entry)) n ⌝ }
-{
-    (ruler::at(list[n]) - ZERO) as usize
-}
-
-// The covered cells of all tiles of the area, which are listed: where the list's first entries were zeros, they are the windows' counts.
+// The covered cells of all tiles of the area, which stand each once in the list: where the list's first entries were zeros, they are the windows' counts.
 pub(crate) fn spread(t: &[i32], list: &[i32], out: &mut [f64], area: Area, w: u64, h: u64)
     requires { ⌜ Forms (now t) ⌝ }
     requires { ⌜ RectRight (areaOf area) ⌝ }
     requires { ⌜ Steps (areaOf area) w h ⌝ }
-    requires { ⌜ Holds (now t) (areaOf area) (now list) ⌝ }
+    requires { ⌜ Each (Meets (now t) (areaOf area)) (length (now list)) (named (now list)) ⌝ }
     requires { ⌜ windowsOf (areaOf area) w h ≤ length (now out) ⌝ }
     ensures { λ _. ⌜ Spreads (now (out .entry)) (now (out .exit)) (now (t .entry)) (areaOf area) w h ⌝ }
 {
     let columns = columns_of(area, w);
     let mut j: usize = 0;
     while j < list.len() {
-        let k = named(list, j);
+        let k = seek::named(list, j);
         add_tile(t, k, out, area, columns, w, h);
         j += 1;
     }

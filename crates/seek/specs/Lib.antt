@@ -15,5 +15,7 @@ pub mod Each
 pub mod Writing
 pub mod Enumerate
 pub mod Trees
+pub mod RightSide
 pub mod Subtree
 pub mod Roots
+pub mod Queue

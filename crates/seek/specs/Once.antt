@@ -23,10 +23,10 @@ unfoldable pub times : ℕ → List ℕ → ℕ
 times k [] = 0
 times k (x ∷ w) = only (eqb x k) 1 + times k w
 
-one-if : (x k : ℕ) → x ≡ k → only (eqb x k) 1 ≡ 1
+pub one-if : (x k : ℕ) → x ≡ k → only (eqb x k) 1 ≡ 1
 one-if x k e = only-T (eqb x k) (subst (λ k. T (eqb x k)) e (eqb-refl x))
 
-none-unless : (x k : ℕ) → x ≢ k → only (eqb x k) 1 ≡ 0
+pub none-unless : (x k : ℕ) → x ≢ k → only (eqb x k) 1 ≡ 0
 none-unless x k d = go (eqb x k) (λ t. d (eqb→eq x k t))
   where
     go : (b : Bool) → (T b → ⊥) → only b 1 ≡ 0

@@ -119,7 +119,7 @@ module _ (t : List ℤ) (A : Area) where
 
 module _ (t : List ℤ) (f : Forms t) (A : Area) (a : RectRight A) where
   -- the tile that a tile hangs under is of the area too
-  parent : (k : ℕ) → Meets t A k → A .left < num t k LEFT → (p : ℕ) × Meets t A p × Hangs t A p k × (num t p LEFT < num t k LEFT)
+  pub parent : (k : ℕ) → Meets t A k → A .left < num t k LEFT → (p : ℕ) × Meets t A p × Hangs t A p k × (num t p LEFT < num t k LEFT)
   parent k m h =
       let w = formed t f k (m .used) in
       let (p, o) = f .good .covered (num t k LEFT - 1) (max (num t k BOTTOM) (A .bottom)) (omega (arith, w, a, m)) in

@@ -67,7 +67,7 @@ module _ (t : List ℤ) (f : Forms t) (A : Area) (a : RectRight A) where
     same-root j x r b c d e =
         one-tile t f j k (A .left) x (r .meets .used) (v .used) (omega (arith, r .first, r .meets .right)) (omega (arith, v .has))
 
-    no-other-root : (j : ℕ) → Root t A j → RootMet t A (num t k BOTTOM) j → RootMet t A y j ⊎ (j ≡ k)
+    pub no-other-root : (j : ℕ) → Root t A j → RootMet t A (num t k BOTTOM) j → RootMet t A y j ⊎ (j ≡ k)
     no-other-root j r q =
         let w = formed t f j (r .meets .used) in
         lt-cases (max (num t j BOTTOM) (A .bottom)) y

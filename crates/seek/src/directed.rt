@@ -9,7 +9,7 @@ ghost use Rattle.table.specs.Forms.{Forms};
 ghost use Rattle.seek.specs.Meaning.{RectRight, Meets};
 ghost use Rattle.seek.specs.Walk.{Goes};
 ghost use Rattle.seek.specs.Writing.{over, words};
-ghost use Rattle.seek.specs.Subtree.{Floor, Follows};
+ghost use Rattle.seek.specs.RightSide.{Floor, Follows};
 ghost use Rattle.seek.specs.Enumerate.{areaOf, edges, WritesTree, WritesArea, CountsArea};
 use crate::cell::find;
 use crate::side::Walk;
@@ -27,7 +27,7 @@ pub struct Area {
 
 // The lowest row in which a tile at p's right side can begin and hang under p. Where p reaches down to the area's bottom that is any row, since
 // the area cuts what begins under it.
-fn floor(t: &[i32], p: usize, bottom: u64) -> u64
+pub(crate) fn floor(t: &[i32], p: usize, bottom: u64) -> u64
     requires { ⌜ p < recordsOf (now t) ⌝ }
     ensures { λ r. ⌜ Floor (now (t .entry)) p bottom r ⌝ }
 {
@@ -53,7 +53,7 @@ fn place_after(n: usize, len: usize) -> usize
 }
 
 // The walk's next tile, or its end where all that follow lie under the area.
-fn next(mut w: Walk, t: &[i32], bottom: u64) -> Walk
+pub(crate) fn next(mut w: Walk, t: &[i32], bottom: u64) -> Walk
     requires { ⌜ Forms (now t) ⌝ }
     requires { ⌜ SizeRight (now t) ⌝ }
     requires { ⌜ Goes (now t) w ⌝ }

@@ -4,6 +4,7 @@ mod cell;
 mod directed;
 mod first;
 mod neighbours;
+mod queue;
 mod rect;
 mod side;
 
@@ -17,4 +18,6 @@ pub use first::first_used;
 pub use first::start;
 pub use neighbours::count_side;
 pub use neighbours::list_side;
+pub use queue::gather;
+pub use queue::named;
 pub use rect::rect_right;

@@ -5,21 +5,18 @@ use native.Mathlib.Omega.{arith}
 use denote.Ref.{now}
 use lib.ListN.{length}
 use lib.Seq.{length-take-le}
-use Rattle.seek.specs.Enumerate.{areaOf, counts-area-short}
-use Rattle.seek.specs.Writing.{writes-count}
+use Rattle.seek.specs.Enumerate.{areaOf}
+use Rattle.seek.specs.Queue.{gathers-front}
 use Rattle.density.specs.Meaning.{windowsOf, countOf}
 use Rattle.density.specs.Counts.{Counts}
-use Rattle.density.specs.Summing.{writes-holds}
 use Rattle.density.specs.Spreading.{report-from}
 use borrow.Author.Needs.{needs}
 use Rattle.density.proofs.reporting.report_all.Statement.{statement}
 use Rattle.density.proofs.reporting.report_all.Tie as tie
 
 -- there is room for all tiles
-room : (c : tie.After-list-area) → c .list-area .result ≤ length (c .list-area .last .1 .0)
-room c =
-    let p = c .before .before .before .before .before .before .before .before .pre in
-    omega (arith, counts-area-short _ (p .0) _ _ (writes-count _ _ _ _ (c .list-area .ensures)), p .1 .0 .most, c .list-area .kept .1 .0)
+room : (c : tie.After-gather) → c .gather .result ≤ length (c .gather .last .1 .0)
+room c = c .gather .ensures .few
 
 -- the windows' counts stand in the list
 counted : (c : tie.After-spread) → let a = c .before .before .before .before .before .before .before .before .before .before .before .before .args in
@@ -36,22 +33,24 @@ count-windows-requires c κs = search needs
 clear-requires : tie.Need-clear-requires
 clear-requires c κs = search needs
 
-slice-aggregate-list-area : tie.Need-slice-aggregate-list-area
-slice-aggregate-list-area c = search needs
+slice-aggregate-gather : tie.Need-slice-aggregate-gather
+slice-aggregate-gather c = search needs
 
-list-area-requires : tie.Need-list-area-requires
-list-area-requires c κs = search needs
+gather-requires : tie.Need-gather-requires
+gather-requires c κs =
+    let p = c .before .before .before .before .before .before .before .pre in
+    (p .0, (p .1 .0, (p .1 .1 .0, (p .1 .1 .1 .0, omega (arith, p .1 .0 .most)))))
 
 array-share-prefix-list : tie.Need-array-share-prefix-list
 array-share-prefix-list c = room (c .before)
 
 slice-aggregate-spread : tie.Need-slice-aggregate-spread
-slice-aggregate-spread c = let k = c .before .before .list-area in sym (length-take-le (k .result) (k .last .1 .0) (room (c .before .before)))
+slice-aggregate-spread c = let k = c .before .before .gather in sym (length-take-le (k .result) (k .last .1 .0) (room (c .before .before)))
 
 spread-requires : tie.Need-spread-requires
 spread-requires c κs =
     let l = c .before .before .before in
-    let k = l .list-area in
+    let k = l .gather in
     let e = l .before .before .before .before in
     let p = e .before .before .before .before .pre in (
       p .0,
@@ -60,7 +59,7 @@ spread-requires c κs =
         (
           p .1 .1 .1 .1 .0,
           (
-            writes-holds _ _ _ (k .last .1 .0) (k .result) (k .ensures) (omega (arith, room l, k .kept .1 .0)),
+            gathers-front _ _ _ _ (k .ensures),
             omega (arith, p .1 .1 .1 .1 .1, e .clear .kept .0),
           ),
         ),
@@ -89,8 +88,8 @@ report-all-spec =
     (tie.spec
     count-windows-requires
     clear-requires
-    slice-aggregate-list-area
-    list-area-requires
+    slice-aggregate-gather
+    gather-requires
     array-share-prefix-list
     slice-aggregate-spread
     spread-requires

@@ -7,7 +7,6 @@ use borrow.Author.Needs.{needs}
 use lib.ListN.{length}
 use Rattle.seek.specs.Meaning.{Meets}
 use Rattle.seek.specs.Enumerate.{areaOf}
-use Rattle.density.specs.Summing.{entry, entry-meets}
 use Rattle.density.specs.Spreading.{AddsTile, Spreading, spread-starts, spread-on, spread-ends}
 use Rattle.density.proofs.spread.spread.Statement.{statement}
 use Rattle.density.proofs.spread.spread.Tie as tie
@@ -28,7 +27,7 @@ loop-holds : tie.Need-loop-holds Inv-loop μ-loop
 loop-holds c = let a = c .before .before .args in (refl, (omega arith, spread-starts (now (a .t)) (areaOf (a .area)) (a .w) (a .h) (now (a .list)) (now (a .out))))
 
 named-requires : tie.Need-named-requires Inv-loop μ-loop
-named-requires c κs = let p = c .before .before .before .before .pre in entry _ (p .0) _ (p .1 .0) _ (p .1 .1 .1 .0) _ (omega arith)
+named-requires c κs = omega arith
 
 add-tile-requires : tie.Need-add-tile-requires Inv-loop μ-loop
 add-tile-requires c κs =
@@ -43,7 +42,7 @@ add-tile-requires c κs =
           (
             l .before .columns-of .ensures,
             (
-              subst (Meets _ _) (sym (k .named .ensures)) (entry-meets _ (p .0) _ (p .1 .0) _ (p .1 .1 .1 .0) _ (omega arith)),
+              subst (Meets _ _) (sym (k .named .ensures)) (p .1 .1 .1 .0 .each _ (omega arith)),
               omega (arith, p .1 .1 .1 .1, l .loop .inv .0),
             ),
           ),
@@ -67,7 +66,7 @@ loop-again c =
       d .add-tile .kept .1 .1 .0 ∙ l .loop .inv .0,
       (
         omega arith,
-        spread-on _ (p .0) _ (p .1 .0) _ _ (p .1 .1 .0) _ (p .1 .1 .1 .0) _ _ _ _ (omega arith) (l .loop .inv .1 .1)
+        spread-on _ (p .0) _ (p .1 .0) _ _ (p .1 .1 .0) (now (s .args .list)) (p .1 .1 .1 .0) _ _ _ (l .loop .j) (omega arith) (l .loop .inv .1 .1)
             (subst (AddsTile _ _ _ _ (s .args .w) (s .args .h)) (k .named .ensures) (d .add-tile .ensures)),
       ),
     )
@@ -78,8 +77,9 @@ same-length c = c .before .loop .inv .0
 returns : tie.Need-returns Inv-loop μ-loop
 returns c =
     let l = c .before in
-    let p = l .before .before .before .pre in
-    spread-ends _ (p .0) _ (p .1 .0) _ _ (p .1 .1 .0) _ (p .1 .1 .1 .0) _ _ _ (omega (arith, l .loop .inv .1 .0)) (l .loop .inv .1 .1)
+    let s = l .before .before .before in
+    let p = s .pre in
+    spread-ends _ (p .0) _ (p .1 .0) _ _ (p .1 .1 .0) (now (s .args .list)) (p .1 .1 .1 .0) _ _ (l .loop .j) (omega (arith, l .loop .inv .1 .0)) (l .loop .inv .1 .1)
 
 pub spread-spec : {M : Type 1} → statement M
 spread-spec =

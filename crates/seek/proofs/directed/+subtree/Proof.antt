@@ -13,7 +13,8 @@ use Rattle.seek.specs.Hanging.{hangs-beside}
 use Rattle.seek.specs.Once.{tree-short}
 use Rattle.seek.specs.Writing.{over-length}
 use Rattle.seek.specs.Enumerate.{edges}
-use Rattle.seek.specs.Subtree.{Going, left-of-walk, going-starts, going-ends, going-goes, going-at, going-above, going-last, going-short, going-pass, going-more, going-falls, writes-alone, floor-hangs}
+use Rattle.seek.specs.RightSide.{left-of-walk, walking-goes, walking-at, walking-hangs, walking-last, walking-on, walking-falls}
+use Rattle.seek.specs.Subtree.{Going, going-starts, going-ends, going-short, going-pass, going-more, writes-alone}
 use borrow.Fn.Kinds.{In}
 use borrow.Fn.PlainCycle.{Measures, is, falls, and}
 use Rattle.seek.proofs.directed.subtree.Reads as subtree
@@ -86,9 +87,8 @@ hung t c =
     let p = start t l .pre .1 in
     let b = l .before .before in
     let e = b .before in
-    floor-hangs _ (p .0) _ _ (p .1 .1) _ _ (b .floor .ensures) (omega (arith, e .if1 .left, e .before .word .ensures .is))
-    (going-at _ (p .0) _ _ (p .1 .1) _ _ _ _ (l .loop .inv) (v .before .loop-test .taken))
-    (going-above _ (p .0) _ _ (p .1 .1) _ _ _ _ (l .loop .inv) (v .before .loop-test .taken))
+    walking-hangs _ (p .0) _ _ (p .1 .1) _ (l .loop .inv .walk) (v .before .loop-test .taken) _ (b .floor .ensures)
+    (omega (arith, e .if1 .left, e .before .word .ensures .is))
     (omega (arith, c .before .if2 .left, v .word2 .ensures .is)) (omega (arith, c .if3 .taken, v .word2 .ensures .is))
 
 subtree-put-first-requires : (t : ℕ) → subtree-lts.Need-put-first-requires (calls t) (subtree-at t) subtree.Post subtree-Inv-loop subtree-μ-loop
@@ -126,7 +126,7 @@ subtree-word-requires-2 : (t : ℕ) → subtree-lts.Need-word-requires-2 (calls 
 subtree-word-requires-2 t c κs =
     let l = c .before in
     let p = start t l .pre .1 in
-    omega (arith, going-at _ (p .0) _ _ (p .1 .1) _ _ _ _ (l .loop .inv) (c .loop-test .taken) .used .below)
+    omega (arith, walking-at _ (p .0) _ _ (p .1 .1) _ (l .loop .inv .walk) (c .loop-test .taken) .used .below)
 
 subtree-same-length-2 : (t : ℕ) → subtree-lts.Need-same-length-2 (calls t) (subtree-at t) subtree.Post subtree-Inv-loop subtree-μ-loop
 subtree-same-length-2 t c = long t (c .before .before .before)
@@ -137,7 +137,7 @@ subtree-returns-2 t c =
     let l = v .before .before in
     let p = start t l .pre .1 in
     going-ends _ (p .0) _ _ (p .1 .1) _ _ _ _ _ (l .loop .inv)
-    (going-last _ (p .0) _ _ (p .1 .1) _ _ _ _ (l .loop .inv) (v .before .loop-test .taken) _ (l .before .before .floor .ensures)
+    (walking-last _ (p .0) _ _ (p .1 .1) _ (l .loop .inv .walk) (v .before .loop-test .taken) _ (l .before .before .floor .ensures)
     (omega (arith, c .if2 .taken, v .word2 .ensures .is)))
     (first t l .put-first .ensures)
 
@@ -183,14 +183,14 @@ subtree-next-requires t c κs =
     let v = c .before .before in
     let l = v .before .before in
     let p = start t l .pre .1 in
-    (p .0, (p .1 .0, going-goes _ (p .0) _ _ (p .1 .1) _ _ _ _ (l .loop .inv) (v .before .loop-test .taken)))
+    (p .0, (p .1 .0, walking-goes _ (p .0) _ _ (p .1 .1) _ (l .loop .inv .walk) (v .before .loop-test .taken)))
 
 subtree-loop-less : (t : ℕ) → subtree-lts.Need-loop-less (calls t) (subtree-at t) subtree.Post subtree-Inv-loop subtree-μ-loop
 subtree-loop-less t c =
     let v = c .before .before .before in
     let l = v .before .before in
     let p = start t l .pre .1 in
-    going-falls _ (p .0) _ _ (p .1 .1) _ _ _ _ (l .loop .inv) (v .before .loop-test .taken) _ (c .next .ensures)
+    walking-falls _ (p .0) _ _ (p .1 .1) _ (l .loop .inv .walk) (v .before .loop-test .taken) _ (c .next .ensures)
 
 subtree-loop-again : (t : ℕ) → subtree-lts.Need-loop-again (calls t) (subtree-at t) subtree.Post subtree-Inv-loop subtree-μ-loop
 subtree-loop-again t c =
@@ -198,10 +198,11 @@ subtree-loop-again t c =
     let r = d .before in
     let l = r .before .before in
     let p = start t l .pre .1 in
+    let o = walking-on _ (p .0) _ _ (p .1 .1) _ (l .loop .inv .walk) (r .before .loop-test .taken) _ (c .next .ensures) in
     ⊎-elim
-    (λ v. going-more _ (p .0) _ _ (p .1 .1) _ _ _ _ (l .loop .inv) (r .before .loop-test .taken) _ (c .next .ensures) _ _ _ _ _
+    (λ v. going-more _ (p .0) _ _ (p .1 .1) _ _ _ _ (l .loop .inv) (r .before .loop-test .taken) _ o _ _ _ _ _
     (hung t (record { before = d; if3 = v .0 })) (v .1 .ensures) (v .3 .ensures) (v .5) (v .6))
-    (λ v. going-pass _ (p .0) _ _ (p .1 .1) _ _ _ _ (l .loop .inv) (r .before .loop-test .taken) _ (c .next .ensures) _ _
+    (λ v. going-pass _ (p .0) _ _ (p .1 .1) _ _ _ _ (l .loop .inv) (r .before .loop-test .taken) _ o _ _
     (λ h. omega (arith, h .meets .bottom, v .0 .left, r .word2 .ensures .is)) (v .1) (v .2))
     (c .before .if3 .came)
 
@@ -212,7 +213,7 @@ subtree-returns-3 : (t : ℕ) → subtree-lts.Need-returns-3 (calls t) (subtree-
 subtree-returns-3 t c =
     let l = c .before in
     let p = start t l .pre .1 in
-    going-ends _ (p .0) _ _ (p .1 .1) _ _ _ _ _ (l .loop .inv) (l .loop .inv .done (c .loop-test .left)) (first t l .put-first .ensures)
+    going-ends _ (p .0) _ _ (p .1 .1) _ _ _ _ _ (l .loop .inv) (l .loop .inv .walk .done (c .loop-test .left)) (first t l .put-first .ensures)
 
 pub +subtree-spec : {M : Type 1} → statement M
 +subtree-spec = close μ-subtree λ t. subtree-lts.spec (calls t)

@@ -1,7 +1,7 @@
 -- `seek::directed::next` meets its contract. Assumes nothing.
 use mathlib.Core.Path.{refl}
 use native.Mathlib.Omega.{arith}
-use Rattle.seek.specs.Subtree.{stops, steps, goes-below}
+use Rattle.seek.specs.RightSide.{stops, steps, goes-below}
 use borrow.Author.Needs.{needs}
 use Rattle.seek.proofs.directed.next.Statement.{statement}
 use Rattle.seek.proofs.directed.next.Tie as tie

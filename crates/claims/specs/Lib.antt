@@ -12,6 +12,7 @@ pub mod AgreeDelete
 pub mod AgreeLoad
 pub mod Agree
 pub mod Density
+pub mod Listing
 pub mod History
 pub mod HistoryAccount
 pub mod HistoryCalls

@@ -1,6 +1,6 @@
-//! The density report on a sound table: the area's tiles are met once, and each solid's cells are counted in the
+//! The density report on a sound table: the area's tiles are gathered once, and each solid's cells are counted in the
 //! windows that it meets. The counts stand in the list, as floats, until they become shares.
-use super::seek::{Listing, Walk};
+use super::seek::{Gathering, Walk};
 use crate::calls::{number, DensityReport};
 use crate::density::Density;
 use crate::rects::Rect;
@@ -12,7 +12,7 @@ pub fn write(table: &[Record], from: usize, area: &Rect, width: i32, height: i32
     let share = |count: u64| Density::of(count, cells).share();
     let grid = Grid { area: *area, width, height, columns: ((area.right - area.left) / width) as usize };
     shares.fill(0.0);
-    Listing { table, from, area: *area }.each(|tile| {
+    Gathering { table, from, area: *area }.each(|tile| {
         if table[tile][KIND] == SOLID {
             grid.add(&table[tile], shares);
         }

@@ -143,6 +143,64 @@ impl Walk for Listing<'_> {
     }
 }
 
+/// The tiles that share a cell with an area, each once: each waits in a queue until those that hang under it stand behind
+/// it.
+pub struct Gathering<'a> {
+    /// A sound table.
+    pub table: &'a [Record],
+    /// Where to begin to look for the area.
+    pub from: usize,
+    /// The area.
+    pub area: Rect,
+}
+
+impl Walk for Gathering<'_> {
+    fn each(&self, visit: impl FnMut(usize)) {
+        let mut queue = [0; MOST_RECORDS + 1];
+        let mut end = self.put_roots(&mut queue);
+        let mut next = 0;
+        while next < end {
+            end = self.put_hanging(queue[next], &mut queue, end);
+            next += 1;
+        }
+        queue[..end].iter().copied().for_each(visit);
+    }
+}
+
+impl Gathering<'_> {
+    fn put_roots(&self, queue: &mut [usize]) -> usize {
+        let Gathering { table, from, area } = self;
+        let (mut at, mut top, mut end) = (*from, area.top, 0);
+        while area.bottom < top {
+            at = find(table, at, area.left, top - 1);
+            queue[end] = at;
+            end += 1;
+            top = table[at][BOTTOM];
+        }
+        end
+    }
+
+    fn put_hanging(&self, tile: usize, queue: &mut [usize], mut end: usize) -> usize {
+        let Gathering { table, area, .. } = self;
+        let [_, bottom, right, ..] = table[tile];
+        if right >= area.right {
+            return end;
+        }
+        let floor = if bottom <= area.bottom { -EDGE } else { bottom };
+        let mut at = table[tile][TR] as usize;
+        loop {
+            // Every tile is written, and counts only if it hangs under this one: so that is no branch.
+            let low = table[at][BOTTOM];
+            queue[end] = at;
+            end += usize::from(floor <= low && low < area.top);
+            if low <= bottom.max(area.bottom) {
+                return end;
+            }
+            at = table[at][LB] as usize;
+        }
+    }
+}
+
 impl Listing<'_> {
     fn subtree(&self, tile: usize, visit: &mut impl FnMut(usize)) {
         visit(tile);

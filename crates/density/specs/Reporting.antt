@@ -178,3 +178,19 @@ module _ (t : List ℤ) (A : Area) (a : RectRight A) (w h : ℕ) (s : Steps A w 
         highest = q ∙ ap (λ m. shareOf m (w * h)) (r .highest ∙ ap (λ n. mostTo n f) e);
         total = c ∙ r .total ∙ ap (λ n. sumTo n f) e;
       }
+
+-- ---- a report on what somebody else wrote first
+
+-- it is one on the list as it was, where only the windows' entries were written
+pub report-from : (t : List ℤ) (A : Area) (w h : ℕ) (old mid new : List Float) (r : Report) → length mid ≡ length old
+    → ((m : ℕ) → windowsOf A w h ≤ m → getD mid m (float 0) ≡ getD old m (float 0)) → Reports t A w h mid new r → Reports t A w h old new r
+report-from t A w h old mid new r long rest o = record {
+  written = record { long = o .written .long ∙ long; shares = o .written .shares; rest = λ m l. o .written .rest m l ∙ rest m l };
+  least = o .least;
+  least-is = o .least-is;
+  lowest = o .lowest;
+  most = o .most;
+  most-is = o .most-is;
+  highest = o .highest;
+  total = o .total;
+}

@@ -17,8 +17,6 @@ use Rattle.density.specs.Meaning.{Steps, windowsOf, windowOf, countOf}
 use Rattle.density.specs.Windows.{Inside, window-inside, window-right}
 use Rattle.density.specs.Cover.{partOf, boxOf, cellsOf, coverOf, cover-none, cover-solid}
 use Rattle.density.specs.Counts.{Counts, counts-same}
-use Rattle.density.specs.Report.{Reports}
-use Rattle.density.specs.declared.windows.Report.{Report}
 use Rattle.density.specs.Summing.{sumNamed, sum-next, sums-all, sums-small, sums-none}
 use Rattle.density.specs.Row.{Grow}
 use Rattle.density.specs.Parts.{PartFits, AddsPart, cellsIn}
@@ -94,17 +92,3 @@ module _ (t : List ℤ) (f : Forms t) (A : Area) (a : RectRight A) (w h : ℕ) (
         counts-same base _ _ _ _ (g base c)
         (λ m k. ap (sumNamed t (windowOf A w h m) list) e
         ∙ sums-all t f A list o (windowOf A w h m) (window-right A a w h s m k) (window-inside A a w h s m k))
-
--- a report on a list of counts is one on the list that was lent
-pub report-from : (t : List ℤ) (A : Area) (w h : ℕ) (old mid new : List Float) (f : ℕ → ℕ) (r : Report) → Counts old mid (windowsOf A w h) f
-    → Reports t A w h mid new r → Reports t A w h old new r
-report-from t A w h old mid new f r c o = record {
-  written = record { long = o .written .long ∙ c .long; shares = o .written .shares; rest = λ m l. o .written .rest m l ∙ c .rest m l };
-  least = o .least;
-  least-is = o .least-is;
-  lowest = o .lowest;
-  most = o .most;
-  most-is = o .most-is;
-  highest = o .highest;
-  total = o .total;
-}

@@ -4,6 +4,7 @@ use mathlib.Core.Logic.{_≢_}
 use mathlib.Core.List.{List}
 use Prim.Native.Nat.{ℕ, _*_, _≤_, _<_}
 use lib.IntN.{ℤ}
+use lib.Ieee.{Float}
 use lib.ListN.{length}
 use Rattle.geometry.specs.Picture.{InPlane}
 use Rattle.table.specs.Words.{recordsOf}
@@ -14,6 +15,9 @@ use Rattle.seek.specs.Neighbours.{sideOf}
 use Rattle.seek.specs.Listing
 use Rattle.seek.specs.Listing.{Counts}
 use Rattle.seek.specs.Enumerate.{CountsArea, WritesArea}
+use Rattle.density.specs.Meaning.{Steps, windowsOf}
+use Rattle.density.specs.Report.{Reports}
+use Rattle.density.specs.declared.windows.Report.{Report}
 use Rattle.layout.specs.Order.{Saves}
 use Rattle.layout.specs.Bytes.{SAVED}
 use Rattle.repeated.specs.Entry.{Fit, Unfit}
@@ -69,6 +73,15 @@ pub data EnumerateSays (t : List ℤ) (A : Area) (old new : List ℤ) (a : Answe
   rect : Fit t → (RectRight A → ⊥) → a ≡ answered 4 0 → new ≡ old → EnumerateSays t A old new a
   short : Fit t → (n : ℕ) → AreaListed t A old new n → length old < n → a ≡ answered 10 n → EnumerateSays t A old new a
   done : Fit t → (n : ℕ) → AreaListed t A old new n → n ≤ length old → a ≡ answered 0 n → EnumerateSays t A old new a
+
+-- the windows' shares, as every run leaves them
+pub data DensitySays (t : List ℤ) (A : Area) (w h : ℕ) (old new : List Float) (a : Answer) : Type 0 where
+  unfit : Refuses t a → new ≡ old → DensitySays t A w h old new a
+  rect : Fit t → (RectRight A → ⊥) → a ≡ answered 4 0 → new ≡ old → DensitySays t A w h old new a
+  step : Fit t → RectRight A → (Steps A w h → ⊥) → a ≡ answered 13 0 → new ≡ old → DensitySays t A w h old new a
+  short : Fit t → RectRight A → Steps A w h → length old < windowsOf A w h → a ≡ answered 10 (windowsOf A w h) → new ≡ old → DensitySays t A w h old new a
+  done : Fit t → RectRight A → Steps A w h → windowsOf A w h ≤ length old → (r : Report) → Reports t A w h old new r → a ≡ answered 0 (windowsOf A w h)
+      → DensitySays t A w h old new a
 
 pub data SaveSays (t : List ℤ) (old new : List ℕ) (a : Answer) : Type 0 where
   unfit : Refuses t a → new ≡ old → SaveSays t old new a

@@ -24,3 +24,5 @@ pub const FULL: u64 = 7;
 pub const SIDE: u64 = 9;
 
 pub const SHORT: u64 = 10;
+
+pub const STEP: u64 = 13;

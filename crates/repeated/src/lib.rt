@@ -6,5 +6,6 @@ mod entry;
 mod enumerate;
 mod find;
 mod neighbours;
+mod reports;
 mod save;
 mod search;

@@ -9,7 +9,7 @@ use Rattle.seek.specs.Enumerate.{areaOf}
 use Rattle.seek.specs.Queue.{gathers-front}
 use Rattle.density.specs.Meaning.{windowsOf, countOf}
 use Rattle.density.specs.Counts.{Counts}
-use Rattle.density.specs.Spreading.{report-from}
+use Rattle.density.specs.Reporting.{report-from}
 use borrow.Author.Needs.{needs}
 use Rattle.density.proofs.reporting.report_all.Statement.{statement}
 use Rattle.density.proofs.reporting.report_all.Tie as tie
@@ -80,7 +80,7 @@ returns : tie.Need-returns
 returns c =
     let t = c .before .before in
     let d = t .before .before .before .before in
-    report-from _ _ _ _ _ _ _ _ _ (counted d) (t .tally .ensures)
+    report-from _ _ _ _ _ _ _ _ (counted d .long) (counted d .rest) (t .tally .ensures)
 
 pub report-all-spec : {M : Type 1} → statement M
 report-all-spec =

@@ -1,5 +1,6 @@
 //! The calls' inner work, without the check of the table. A second archive exports, for each call, one that checks the
 //! table once and then does the inner work so many times; what the check costs is taken off by a run of no times.
+use crate::density::{turns, Ratios, Sheet};
 use crate::timing::{consumed, medians, repeated, Medians};
 use crate::work::{nth, Work};
 use crate::Measure;
@@ -83,6 +84,20 @@ extern "C" {
         label: u64,
         times: u32,
     ) -> Runs;
+    #[rustfmt::skip]
+    fn rep_density(
+        table: *const i32,
+        words: usize,
+        left: u64,
+        bottom: u64,
+        right: u64,
+        top: u64,
+        width: u64,
+        height: u64,
+        shares: *mut f64,
+        room: usize,
+        times: u32,
+    ) -> Runs;
     fn rep_save(table: *const i32, words: usize, bytes: *mut u8, room: usize, times: u32) -> Runs;
 }
 
@@ -103,12 +118,17 @@ fn accepted(runs: Runs) {
 
 /// The seconds of so many calls, the check taken off, as all questions together show them. Both programs are measured by it,
 /// so that what a check leaves behind in the machine is the same for both.
-fn without_check(times: usize, mut call: impl FnMut(usize, u32)) -> f64 {
+fn without_check(times: usize, call: impl FnMut(usize, u32)) -> f64 {
+    times as f64 * of_questions(QUESTIONS, call)
+}
+
+/// The seconds of one call, as so many questions show them.
+fn of_questions(questions: usize, mut call: impl FnMut(usize, u32)) -> f64 {
     let mut seconds = 0.0;
-    for number in 0..QUESTIONS {
+    for number in 0..questions {
         seconds += repeated(1, |_| call(number, TIMES)) - repeated(1, |_| call(number, 0));
     }
-    seconds.max(0.0) * times as f64 / (QUESTIONS * TIMES as usize) as f64
+    seconds.max(0.0) / (questions * TIMES as usize) as f64
 }
 
 /// The plain program's course, the same as the server's: one check, then the work of run 0 to `repeats`.
@@ -271,4 +291,26 @@ fn save(work: &Work) -> Medians {
         },
         &mut |times| repeated(times, |_| consumed(answers::save(black_box(&work.solids)))),
     )
+}
+
+/// A round of the density report's inner work. Every run that counts follows another run, and is quicker than one that
+/// follows a check: so these are fewer checks than a whole call takes beyond its own.
+pub fn density(sheet: &Sheet, columns: i32, shares: &mut [f64]) -> Ratios {
+    let (words, table) = (&sheet.table, records(&sheet.table));
+    let [left, bottom, right, top] = ruled(&sheet.area);
+    let ((width, height), turns) = (sheet.window(columns), turns());
+    let check = sheet.checks(turns) / turns as f64;
+    let server = of_questions(turns, |_, repeats| {
+        let (wide, high, place, room) = (width as u64, height as u64, shares.as_mut_ptr(), shares.len());
+        accepted(unsafe {
+            rep_density(words.as_ptr(), words.len(), left, bottom, right, top, wide, high, place, room, repeats)
+        });
+    });
+    let plain = of_questions(turns, |_, repeats| {
+        after_check(words, repeats, |run| {
+            let from = seek::start(table, run);
+            consumed(plain::density::write(black_box(table), from, &sheet.area, width, height, black_box(shares)));
+        })
+    });
+    Ratios { to_plain: server / plain, checks: server / check }
 }

@@ -14,6 +14,7 @@ mod timing;
 mod work;
 mod worst;
 
+use density::{Round, Sheet};
 use report::Form;
 use std::process::ExitCode;
 use timing::Medians;
@@ -41,12 +42,15 @@ fn main() -> ExitCode {
     form.begin();
     table(form, "whole call", "list", &calls::MEASURES, &works);
     table(form, "whole call", "pass", &calls::CHECK_AND_PASS, &works);
+    let largest = &works[SIZES.len() - 1];
     #[cfg(feature = "inner")]
-    table(form, "inner work", "list", &inner::MEASURES, &works);
-    form.density_head();
-    for sheet in density::sheets(&works[SIZES.len() - 1]) {
-        form.density_row(sheet.name, &sheet.measure(timing::passes()));
+    {
+        table(form, "inner work", "list", &inner::MEASURES, &works);
+        form.density_head("inner work of the density report", "in checks");
+        density_row(form, &density::scattered(largest), inner::density);
     }
+    form.density_head("density report", "work beyond the check in checks");
+    density::sheets(largest).iter().for_each(|sheet| density_row(form, sheet, Sheet::whole));
     form.worst_head();
     for layout in worst::LAYOUTS {
         let measured = layout.measure(timing::passes());
@@ -65,4 +69,9 @@ fn table(form: Form, title: &str, third: &str, measures: &[Measure], works: &[Wo
         }
         form.row(call, &passes);
     }
+}
+
+/// One table's density report, by the number of windows.
+fn density_row(form: Form, sheet: &Sheet, round: Round) {
+    form.density_row(sheet.name, &sheet.measure(timing::passes(), round));
 }

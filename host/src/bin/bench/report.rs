@@ -69,16 +69,16 @@ impl Form {
         }
     }
 
-    /// The density report, by the number of windows.
-    pub fn density_head(self) {
+    /// The density report, or its inner work, by the number of windows: over the plain program's, and then so.
+    pub fn density_head(self, title: &str, then: &str) {
         let windows = windows();
         match self {
             Form::Times => {
-                println!("\nThe density report at {windows:?} windows: to plain, then work beyond the check in checks")
+                println!("\nThe {title} at {windows:?} windows: to plain, then {then}")
             }
             Form::Markdown => {
                 let of = |what: &str| windows.map(|windows| format!(" {what}, {windows} |")).concat();
-                println!("\n| density report |{}{}", of("to plain"), of("checks"));
+                println!("\n| {title} |{}{}", of("to plain"), of("checks"));
                 println!("|---|{}", "--:|".repeat(2 * windows.len()));
             }
         }

@@ -64,7 +64,7 @@ enum { USH_KIND_FREE = 0, USH_KIND_SPACE = 1, USH_KIND_SOLID = 2 };
 #define USH_MOST_RECORDS 4016
 #define USH_RECORDS_FOR(solids) (4 * (solids) + 16)   /* for 1 to 1,000 solids */
 #define USH_SAVED_BYTES 20                            /* of one solid in a saved layout */
-#define USH_STACK_BYTES 327680                        /* 320 KiB; density takes most, on 1,000 solids in a row */
+#define USH_STACK_BYTES 327680                        /* 320 KiB; enumerate takes most, on 1,000 solids in a row */
 
 typedef struct { int32_t number; int32_t value; } ush_answer;
 typedef struct { size_t at; size_t len; } ush_part;             /* words table[at .. at + len) */

@@ -1,4 +1,5 @@
-// Looking things up on a table that is known to be sound: the tile at a cell, a tile's neighbours, the first solid and the directed order of an area.
+// Looking things up on a table that is known to be sound: the tile at a cell, a tile's neighbours, the first solid of an area, its tiles in the
+// directed order, and its tiles in no special order.
 mod area;
 mod cell;
 mod directed;

@@ -1,4 +1,4 @@
-// The tiles of an area, each once, in the order of a queue: where nobody asks for the directed order this takes half of its time, and no recursion.
+// The tiles of an area, each once, in the order of a queue: where nobody asks for the directed order this takes less time, and no recursion.
 ghost use mathlib.Core.Path.{_≡_};
 ghost use mathlib.Core.Logic.{_↔_};
 ghost use Prim.Native.Nat.{_+_, _≤_, _<_};
@@ -56,6 +56,7 @@ fn put_roots(t: &[i32], list: &mut [i32], from: usize, area: Area) -> usize
     n
 }
 
+// Whether the row `low` lies over the floor and under the area's top.
 fn is_within(low: u64, lowest: u64, top: u64) -> bool
     ensures { λ r. ⌜ T r ↔ ((lowest ≤ low) × (low < top)) ⌝ }
 {
@@ -69,7 +70,7 @@ fn is_within(low: u64, lowest: u64, top: u64) -> bool
 }
 
 // The tiles that hang under entry i, behind the first n entries. How many entries there are then. Each tile that the walk meets is written, and counts
-// only if it hangs under the entry: so that is no branch. `left` only states the contract.
+// only if it hangs under the entry: the machine need not guess which. `left` only states the contract.
 fn put_hanging(
     t: &[i32],
     list: &mut [i32],

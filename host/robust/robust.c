@@ -318,6 +318,26 @@ static void check_windows(const ush_density_report *report, const double *shares
     must(same_bits(report->highest, (double)highest / (double)cells), "another highest share");
 }
 
+/* On a sound table the first rule that is broken gives the number: the rectangle's, then the windows', then the list's,
+ * whose value is the number of windows. */
+static void check_refused(const ush_density_report *report, int32_t left, int32_t bottom, int32_t right, int32_t top,
+                          int32_t width, int32_t height)
+{
+    int rect = -USH_EDGE <= left && left < right && right <= USH_EDGE && -USH_EDGE <= bottom && bottom < top &&
+               top <= USH_EDGE;
+    int step = rect && width > 0 && height > 0 && (right - left) % width == 0 && (top - bottom) % height == 0;
+    int64_t windows = step ? (int64_t)((right - left) / width) * ((top - bottom) / height) : 0;
+    int32_t broken = step ? USH_SHORT : rect ? USH_STEP : USH_RECT;
+    if (report->number == USH_SIZE || report->number == USH_UNSOUND) {
+        must(report->value == 0, "a refused table has a value");
+    } else {
+        must(report->number == broken, "another rule was broken first");
+        must(report->value == windows, "not the value of the refusal");
+    }
+    must(same_bits(report->lowest, 0.0) && same_bits(report->highest, 0.0) && report->covered == 0,
+         "a refused report tells shares");
+}
+
 /* Now and then the whole plane, whose cells no list takes. The answer tells how many entries are written. */
 static ush_answer density(void)
 {
@@ -334,9 +354,7 @@ static ush_answer density(void)
         check_windows(&report, shares, left, right, top, width, height);
         return (ush_answer){USH_DONE, (int32_t)report.value};
     }
-    must(same_bits(report.lowest, 0.0) && same_bits(report.highest, 0.0) && report.covered == 0,
-         "a refused report tells shares");
-    must((report.value > 0) == (report.number == USH_SHORT), "not the value of the refusal");
+    check_refused(&report, left, bottom, right, top, width, height);
     return (ush_answer){report.number, 0};
 }
 

@@ -50,7 +50,7 @@ pub data Reached (t : List ℤ) (A : Area) (f : ℕ → ℕ) (i : ℕ) (k : ℕ)
   root : Root t A k → Reached t A f i k
   hung : (j : ℕ) → j < i → Hangs t A (f j) k → Reached t A f i k
 
-pub reached-meets : (t : List ℤ) (A : Area) (f : ℕ → ℕ) (i k : ℕ) → Reached t A f i k → Meets t A k
+reached-meets : (t : List ℤ) (A : Area) (f : ℕ → ℕ) (i k : ℕ) → Reached t A f i k → Meets t A k
 reached-meets t A f i k (root r) = r .meets
 reached-meets t A f i k (hung j l h) = h .meets
 
@@ -206,7 +206,7 @@ module _ (t : List ℤ) (f : Forms t) (A : Area) (list₀ : List ℤ) (i n₀ : 
       here : w .at < recordsOf t
       here = walking-at t f A p meets w (g .walk) e .used .below
 
-      pub queueing-room : n < length list
+      queueing-room : n < length list
       queueing-room = omega (arith, queueing-short, q .room, g .long)
 
       kept : (m : ℕ) → m < n₀ → named (put list n (w .at)) m ≡ named list₀ m

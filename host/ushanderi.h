@@ -34,7 +34,7 @@ enum {
     USH_POINT = 3,     /* the cell is outside the plane */
     USH_RECT = 4,      /* right <= left, top <= bottom, or an edge outside -16,777,216..16,777,216 */
     USH_LABEL = 5,     /* label below 1 */
-    USH_OCCUPIED = 6,  /* some solid shares a cell with the rectangle; value: the record that ush_search gives */
+    USH_OCCUPIED = 6,  /* some solid shares a cell with the rectangle; of a create, value and cell are ush_search's */
     USH_FULL = 7,      /* as many solids as the table takes are present */
     USH_SPACE = 8,     /* the cell to delete at is held by space */
     USH_SIDE = 9,      /* side is not 0..3 */
@@ -67,6 +67,13 @@ enum { USH_KIND_FREE = 0, USH_KIND_SPACE = 1, USH_KIND_SOLID = 2 };
 #define USH_STACK_BYTES 327680                        /* 320 KiB; enumerate takes most, on 1,000 solids in a row */
 
 typedef struct { int32_t number; int32_t value; } ush_answer;
+
+/* What ush_search, ush_create and ush_load answer. x and y are the first occupied cell of the area of a search or of
+ * the rectangle of a create, rows read from the top down and each row from left to right. It is always a cell of that
+ * area, and so not the solid's own first cell where the solid reaches out of the area there. An answer that has no such
+ * cell carries 0 and 0. As (0, 0) is a cell too, number and value tell whether there is one. */
+typedef struct { int32_t number; int32_t value; int32_t x; int32_t y; } ush_met;
+
 typedef struct { size_t at; size_t len; } ush_part;             /* words table[at .. at + len) */
 typedef struct { int32_t number; int64_t value; double lowest; double highest; int64_t covered; } ush_density_report;
 
@@ -95,8 +102,8 @@ ush_answer ush_neighbours(const int32_t *table, size_t words, int32_t x, int32_t
 
 /* Looks for the first solid in an area, rows read from the top down and each row from left to right.
  * Answers SIZE, UNSOUND, RECT; DONE with -1 if the area is free, else with the record of the solid that holds its first
- * occupied cell. Writes nothing. */
-ush_answer ush_search(const int32_t *table, size_t words, int32_t left, int32_t bottom, int32_t right, int32_t top);
+ * occupied cell, and with that cell. Every other answer carries 0 and 0 for the cell. Writes nothing. */
+ush_met ush_search(const int32_t *table, size_t words, int32_t left, int32_t bottom, int32_t right, int32_t top);
 
 /* Lists the tiles that share a cell with the area, in directed order: those that begin at or before the area's left
  * are roots, from top to bottom; any other hangs under the tile left of its lowest cell inside the area; each is
@@ -117,10 +124,10 @@ ush_density_report ush_density(const int32_t *table, size_t words, int32_t left,
                                int32_t top, int32_t width, int32_t height, double *shares, size_t room);
 
 /* Draws a solid. The solids that are there keep their records.
- * Answers SIZE, UNSOUND, RECT, LABEL, OCCUPIED (value: the record that ush_search gives), FULL; DONE with the new
- * solid's record. Writes the table only. */
-ush_answer ush_create(int32_t *table, size_t words, int32_t left, int32_t bottom, int32_t right, int32_t top,
-                      int32_t label);
+ * Answers SIZE, UNSOUND, RECT, LABEL, OCCUPIED (value and cell: those that ush_search gives for the rectangle), FULL;
+ * DONE with the new solid's record. Every answer but OCCUPIED carries 0 and 0 for the cell. Writes the table only. */
+ush_met ush_create(int32_t *table, size_t words, int32_t left, int32_t bottom, int32_t right, int32_t top,
+                   int32_t label);
 
 /* Removes the solid that holds the cell. The other solids keep their records.
  * Answers SIZE, UNSOUND, POINT, SPACE, ROOM (which no sound table gives: one of its records is always free); DONE with
@@ -135,8 +142,9 @@ ush_answer ush_save(const int32_t *table, size_t words, uint8_t *bytes, size_t r
 /* Makes the table the plane of a saved layout, as a fresh call and one create for each record would, whatever the table
  * held. No bytes make a fresh plane.
  * Answers SIZE, FILE; then RECT, LABEL, OCCUPIED or FULL of the first refused record, with that record's index from 0,
- * and the table is a fresh plane; DONE with the number of records. Writes the table only. */
-ush_answer ush_load(int32_t *table, size_t words, const uint8_t *bytes, size_t count);
+ * and the table is a fresh plane; DONE with the number of records. Every answer carries 0 and 0 for the cell, OCCUPIED
+ * too. Writes the table only. */
+ush_met ush_load(int32_t *table, size_t words, const uint8_t *bytes, size_t count);
 
 #ifdef __cplusplus
 }

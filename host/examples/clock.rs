@@ -1,6 +1,6 @@
 //! Draws a clock trunk with branches and asks what a seat asks: what is beside it, where is room, what is in the way.
 //! Run with `cargo run --example clock`.
-use ushanderi_host::{Plane, Rect, Refusal, Side, Tile};
+use ushanderi_host::{Met, Plane, Rect, Refusal, Side, Tile};
 
 const TRUNK: i32 = 1;
 const BRANCH: i32 = 2;
@@ -24,7 +24,9 @@ fn main() -> Result<(), Refusal> {
     for area in [Rect::new(20, 50, 60, 65), Rect::new(20, 50, 60, 75)] {
         match plane.search(area)? {
             None => println!("{area} is free"),
-            Some(record) => println!("{area} meets {}", tile(&plane, record)),
+            Some(Met { record, cell: (x, y) }) => {
+                println!("{area} is blocked at ({x}, {y}) by {}", tile(&plane, record))
+            }
         }
     }
     if let Err(refusal) = plane.create(Rect::new(50, 0, 55, 100), 3) {

@@ -1,6 +1,6 @@
-/* A seat in C: makes a plane, draws a clock trunk with branches, asks what is beside it, where is room and how much is
- * metal, shows a refusal, removes a branch, and saves. Prints the same lines every time; seat.txt holds them. A file
- * that is named is given the saved layout, for `draw` and the lister to read. From the folder above:
+/* A seat in C: makes a plane, draws a clock trunk with branches, asks what is beside it, where is room or what blocks
+ * it, and how much is metal, shows refusals, removes a branch, and saves. Prints the same lines every time; seat.txt
+ * holds them. A file that is named is given the saved layout, for `draw` and the lister to read. From the folder above:
  *
  *   gcc -std=c11 -Wall -Wextra -Werror -I. examples/seat.c ../target/staticlib/libushanderi.a -o ../target/seat
  *   ../target/seat [FILE] | diff - examples/seat.txt */
@@ -43,26 +43,33 @@ static void print_list(const char *title, ush_answer answer)
     }
 }
 
+/* Where a marker would be drawn, and what is in the way there. */
+static void print_blocked(ush_met met)
+{
+    printf("blocked at (%d, %d) by ", (int)met.x, (int)met.y);
+    print_tile(met.value);
+}
+
 static void draw(int32_t left, int32_t bottom, int32_t right, int32_t top, int32_t label)
 {
-    ush_answer answer = ush_create(table, WORDS, left, bottom, right, top, label);
+    ush_met met = ush_create(table, WORDS, left, bottom, right, top, label);
     printf("create %d %d %d %d, net %d: %s\n", (int)left, (int)bottom, (int)right, (int)top, (int)label,
-           names[answer.number]);
-    if (answer.number == USH_OCCUPIED) {
-        printf("  by ");
-        print_tile(answer.value);
+           names[met.number]);
+    if (met.number == USH_OCCUPIED) {
+        printf("  ");
+        print_blocked(met);
     }
 }
 
 static void ask_whether_free(int32_t left, int32_t bottom, int32_t right, int32_t top)
 {
-    ush_answer answer = ush_search(table, WORDS, left, bottom, right, top);
+    ush_met met = ush_search(table, WORDS, left, bottom, right, top);
     printf("search %d %d %d %d: ", (int)left, (int)bottom, (int)right, (int)top);
-    if (answer.number == USH_DONE && answer.value >= 0) {
-        print_tile(answer.value);
+    if (met.number == USH_DONE && met.value >= 0) {
+        print_blocked(met);
         return;
     }
-    printf("%s\n", answer.number == USH_DONE ? "free" : names[answer.number]);
+    printf("%s\n", met.number == USH_DONE ? "free" : names[met.number]);
 }
 
 static void print_density(int32_t width, int32_t height)
@@ -84,7 +91,7 @@ static size_t save_and_load_again(void)
     ush_answer answer = ush_save(table, WORDS, saved, sizeof saved);
     printf("save: %s, %d bytes, the first solid begins at column %d\n", names[answer.number], (int)answer.value,
            saved[0] | saved[1] << 8);
-    ush_answer loaded = ush_load(table, WORDS, saved, (size_t)answer.value);
+    ush_met loaded = ush_load(table, WORDS, saved, (size_t)answer.value);
     printf("load: %s, %d solids\n", names[loaded.number], (int)loaded.value);
     return (size_t)answer.value;
 }

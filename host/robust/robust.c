@@ -116,12 +116,6 @@ static int32_t edge_after(int32_t edge)
     return below(8) ? (int32_t)((uint32_t)edge + 1 + below(below(2) ? 9 : 40)) : coordinate();
 }
 
-static ush_answer create(void)
-{
-    int32_t left = coordinate(), bottom = coordinate();
-    return ush_create(words(), word_count(), left, bottom, edge_after(left), edge_after(bottom), (int32_t)below(9));
-}
-
 static void damage(void)
 {
     static const int32_t likely[] = {-2, -1, 0, 1, 2, 3, USH_EDGE, -USH_EDGE, INT32_MAX, INT32_MIN};
@@ -143,6 +137,8 @@ static void damage(void)
         }
     }
 }
+
+static ush_answer create(void);
 
 /* A table that was drawn by the server, damaged or not; or random words; or a wrong size. */
 static void draw_table(void)
@@ -246,17 +242,6 @@ static ush_answer neighbours(void)
     return answer;
 }
 
-static ush_answer search(void)
-{
-    int32_t left = coordinate(), bottom = coordinate(), right = edge_after(left), top = edge_after(bottom);
-    ush_answer answer = ush_search(words(), word_count(), left, bottom, right, top);
-    if (answer.number == USH_DONE && answer.value != -1) {
-        must(record(answer.value)[USH_WORD_KIND] == USH_KIND_SOLID, "what is in the way is no solid");
-        must(meets(answer.value, left, bottom, right, top), "what is in the way is not in the area");
-    }
-    return answer;
-}
-
 static ush_answer enumerate(void)
 {
     int32_t left = coordinate(), bottom = coordinate(), right = edge_after(left), top = edge_after(bottom);
@@ -292,6 +277,49 @@ static int64_t covered_cells(int32_t left, int32_t bottom, int32_t right, int32_
         }
     }
     return cells;
+}
+
+static ush_answer without_cell(ush_met met)
+{
+    must(met.x == 0 && met.y == 0, "an answer without a cell has one");
+    return (ush_answer){met.number, met.value};
+}
+
+/* The cell lies in the area, the record is a solid that holds it, and no cell of the area that is read before it is
+ * held by any. */
+static ush_answer with_cell(ush_met met, int32_t left, int32_t bottom, int32_t right, int32_t top)
+{
+    must(left <= met.x && met.x < right && bottom <= met.y && met.y < top, "the cell in the way is not in the area");
+    must(record(met.value)[USH_WORD_KIND] == USH_KIND_SOLID, "what is in the way is no solid");
+    must(meets(met.value, met.x, met.y, met.x + 1, met.y + 1), "what is in the way does not hold the cell");
+    must(covered_cells(left, met.y + 1, right, top) == 0, "a row over the cell in the way is not free");
+    must(covered_cells(left, met.y, met.x, met.y + 1) == 0, "a cell left of the one in the way is not free");
+    return (ush_answer){met.number, met.value};
+}
+
+static ush_answer search(void)
+{
+    int32_t left = coordinate(), bottom = coordinate(), right = edge_after(left), top = edge_after(bottom);
+    ush_met met = ush_search(words(), word_count(), left, bottom, right, top);
+    if (met.number == USH_DONE && met.value != -1) {
+        return with_cell(met, left, bottom, right, top);
+    }
+    must(met.number != USH_DONE || covered_cells(left, bottom, right, top) == 0, "a free area holds a solid");
+    return without_cell(met);
+}
+
+/* What is in the way of a create is what a search of its rectangle meets. */
+static ush_answer create(void)
+{
+    int32_t left = coordinate(), bottom = coordinate(), right = edge_after(left), top = edge_after(bottom);
+    ush_met met = ush_create(words(), word_count(), left, bottom, right, top, (int32_t)below(9));
+    if (met.number != USH_OCCUPIED) {
+        return without_cell(met);
+    }
+    ush_met seen = ush_search(words(), word_count(), left, bottom, right, top);
+    must(seen.number == USH_DONE && seen.value == met.value && seen.x == met.x && seen.y == met.y,
+         "a search of the rectangle meets something else");
+    return with_cell(met, left, bottom, right, top);
 }
 
 static int same_bits(double one, double other)
@@ -368,9 +396,10 @@ static ush_answer save(void)
     return ush_save(words(), word_count(), list.items, list.bytes);
 }
 
+/* No answer has a cell, also where a record overlaps an earlier one. */
 static ush_answer load(void)
 {
-    return ush_load(words(), word_count(), list.items, list.bytes);
+    return without_cell(ush_load(words(), word_count(), list.items, list.bytes));
 }
 
 static struct call calls[] = {

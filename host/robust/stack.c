@@ -14,11 +14,11 @@
 
 enum { SOLIDS = 1000, WORDS = USH_MOST_RECORDS * USH_RECORD_WORDS, PAINT = 0xa5 };
 
-/* A call and the table that takes it deepest. */
+/* A call, which gives its answer's number, and the table that takes it deepest. */
 struct deepest {
     const char *name;
     void (*draw)(void);
-    ush_answer (*make)(void);
+    int32_t (*make)(void);
 };
 
 static int32_t table[WORDS], list[USH_MOST_RECORDS];
@@ -27,7 +27,7 @@ static double shares[1];
 static unsigned char *stack;
 static ucontext_t outside, inside;
 static const struct deepest *present;
-static ush_answer answer;
+static int32_t number;
 
 static void must(int condition, const char *message)
 {
@@ -54,7 +54,7 @@ static void load_squares(int count, int along_x)
             put_word(bytes + square * USH_SAVED_BYTES + 4 * word, saved[word]);
         }
     }
-    ush_answer loaded = ush_load(table, WORDS, bytes, (size_t)count * USH_SAVED_BYTES);
+    ush_met loaded = ush_load(table, WORDS, bytes, (size_t)count * USH_SAVED_BYTES);
     must(loaded.number == USH_DONE, "the squares are not loaded");
 }
 
@@ -71,76 +71,76 @@ static void column(void)
     load_squares(SOLIDS - 1, 0);
 }
 
-static ush_answer create(void)
+static int32_t create(void)
 {
-    return ush_create(table, WORDS, 10, 0, 11, 2 * SOLIDS, 7);
+    return ush_create(table, WORDS, 10, 0, 11, 2 * SOLIDS, 7).number;
 }
 
 /* That solid too: it cuts all strips between the others. */
 static void column_and_wall(void)
 {
     column();
-    must(create().number == USH_DONE, "the wall is not drawn");
+    must(create() == USH_DONE, "the wall is not drawn");
 }
 
-static ush_answer fresh(void)
+static int32_t fresh(void)
 {
-    return ush_fresh(table, WORDS);
+    return ush_fresh(table, WORDS).number;
 }
 
-static ush_answer check(void)
+static int32_t check(void)
 {
-    return ush_check(table, WORDS);
+    return ush_check(table, WORDS).number;
 }
 
-static ush_answer find(void)
+static int32_t find(void)
 {
-    return ush_find(table, WORDS, USH_EDGE - 1, -USH_EDGE, -1);
+    return ush_find(table, WORDS, USH_EDGE - 1, -USH_EDGE, -1).number;
 }
 
 /* View has no answer number; it counts as DONE. */
-static ush_answer view(void)
+static int32_t view(void)
 {
     ush_view(table, WORDS, USH_MOST_RECORDS - 1);
-    return (ush_answer){USH_DONE, 0};
+    return USH_DONE;
 }
 
-static ush_answer neighbours(void)
+static int32_t neighbours(void)
 {
-    return ush_neighbours(table, WORDS, 0, -1, USH_TOP_SIDE, list, USH_MOST_RECORDS);
+    return ush_neighbours(table, WORDS, 0, -1, USH_TOP_SIDE, list, USH_MOST_RECORDS).number;
 }
 
-static ush_answer search(void)
+static int32_t search(void)
 {
-    return ush_search(table, WORDS, 2 * SOLIDS, -USH_EDGE, USH_EDGE, USH_EDGE);
+    return ush_search(table, WORDS, 2 * SOLIDS, -USH_EDGE, USH_EDGE, USH_EDGE).number;
 }
 
-static ush_answer enumerate(void)
+static int32_t enumerate(void)
 {
-    return ush_enumerate(table, WORDS, -USH_EDGE, -USH_EDGE, USH_EDGE, USH_EDGE, list, USH_MOST_RECORDS);
+    return ush_enumerate(table, WORDS, -USH_EDGE, -USH_EDGE, USH_EDGE, USH_EDGE, list, USH_MOST_RECORDS).number;
 }
 
 /* One window, which lists as much as enumerate does. */
-static ush_answer density(void)
+static int32_t density(void)
 {
     ush_density_report report = ush_density(table, WORDS, -USH_EDGE, -USH_EDGE, USH_EDGE, USH_EDGE, 2 * USH_EDGE,
                                             2 * USH_EDGE, shares, 1);
-    return (ush_answer){report.number, (int32_t)report.value};
+    return report.number;
 }
 
-static ush_answer delete(void)
+static int32_t delete(void)
 {
-    return ush_delete(table, WORDS, 10, SOLIDS);
+    return ush_delete(table, WORDS, 10, SOLIDS).number;
 }
 
-static ush_answer save(void)
+static int32_t save(void)
 {
-    return ush_save(table, WORDS, bytes, sizeof bytes);
+    return ush_save(table, WORDS, bytes, sizeof bytes).number;
 }
 
-static ush_answer load(void)
+static int32_t load(void)
 {
-    return ush_load(table, WORDS, bytes, sizeof bytes);
+    return ush_load(table, WORDS, bytes, sizeof bytes).number;
 }
 
 static const struct deepest calls[] = {
@@ -161,7 +161,7 @@ enum { CALLS = sizeof calls / sizeof *calls };
 
 static void make_present(void)
 {
-    answer = present->make();
+    number = present->make();
 }
 
 /* The bytes of the stack that the call used, with its caller's small frame. */
@@ -195,7 +195,7 @@ int main(void)
         fflush(stdout);
         size_t used = measure(call);
         printf("%6zu bytes of stack\n", used);
-        must(answer.number == USH_DONE, "the deepest call is refused");
+        must(number == USH_DONE, "the deepest call is refused");
         most = used > most ? used : most;
     }
     printf("%zu bytes at most, %d stated\n", most, USH_STACK_BYTES);

@@ -15,13 +15,22 @@ const LEFT_SIDE: i32 = 1;
 const TOP_SIDE: i32 = 2;
 const BOTTOM_SIDE: i32 = 3;
 
-/// A refused create; the solid that is in the way, if one is.
+/// A solid that is in the way, and the cell where it is met.
+#[derive(Clone, Copy, Debug, PartialEq, Eq)]
+pub struct MetSolid {
+    /// The solid.
+    pub solid: Solid,
+    /// The area's first occupied cell in reading order, which the solid holds.
+    pub cell: (i32, i32),
+}
+
+/// A refused create, and what is in the way, if something is.
 #[derive(Debug, PartialEq, Eq)]
 pub struct Refused {
     /// The refusal.
     pub number: i32,
     /// What the area search gives.
-    pub blocker: Option<Solid>,
+    pub met: Option<MetSolid>,
 }
 
 /// A refused load: the refusal's number, and the index of the record that was refused.
@@ -71,18 +80,15 @@ fn touches(rect: &Rect, other: &Rect, side: i32) -> bool {
     }
 }
 
-/// A solid that is in the way, and the cell where it is met.
-pub type Met = (Solid, (i32, i32));
-
 /// The solid that holds the area's first occupied cell in reading order, and that cell.
-pub fn search(solids: &[Solid], area: &Rect) -> Result<Option<Met>, i32> {
+pub fn search(solids: &[Solid], area: &Rect) -> Result<Option<MetSolid>, i32> {
     if !area.keeps_limits() {
         return Err(number::RECT);
     }
     let inside = solids.iter().filter(|solid| solid.rect.shares_cell(area));
     let first_cell = |solid: &Solid| (solid.rect.left.max(area.left), solid.rect.top.min(area.top) - 1);
-    let met = inside.map(|solid| (*solid, first_cell(solid)));
-    Ok(met.min_by_key(|&(_, (x, y))| (-y, x)))
+    let met = inside.map(|solid| MetSolid { solid: *solid, cell: first_cell(solid) });
+    Ok(met.min_by_key(|&MetSolid { cell: (x, y), .. }| (-y, x)))
 }
 
 /// The tiles that share a cell with the area, in directed order.
@@ -146,7 +152,7 @@ fn covered_cells(solids: &[Solid], area: &Rect) -> u64 {
 
 /// Adds the solid to the picture, of which the table takes at most so many.
 pub fn create(solids: &mut Vec<Solid>, most: usize, solid: Solid) -> Result<(), Refused> {
-    let refused = |number| Refused { number, blocker: None };
+    let refused = |number| Refused { number, met: None };
     let met = match search(solids, &solid.rect) {
         Err(number) => return Err(refused(number)),
         Ok(met) => met,
@@ -154,8 +160,8 @@ pub fn create(solids: &mut Vec<Solid>, most: usize, solid: Solid) -> Result<(), 
     if solid.label < 1 {
         return Err(refused(number::LABEL));
     }
-    if let Some((blocker, _)) = met {
-        return Err(Refused { number: number::OCCUPIED, blocker: Some(blocker) });
+    if met.is_some() {
+        return Err(Refused { number: number::OCCUPIED, met });
     }
     if solids.len() == most {
         return Err(refused(number::FULL));

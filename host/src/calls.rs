@@ -67,6 +67,46 @@ impl Answer {
     }
 }
 
+/// What an answer carries that has no cell.
+pub const NO_CELL: (i32, i32) = (0, 0);
+
+/// What search, create and load answer: number and value as in an [`Answer`], and the cell where a solid was met.
+#[repr(C)]
+#[derive(Clone, Copy, Debug, PartialEq, Eq)]
+pub struct MetAnswer {
+    /// One of [`number`]'s.
+    pub number: i32,
+    /// What it means is the call's own; 0 with most refusals.
+    pub value: i32,
+    /// The column of the first occupied cell, a cell of the searched area or of the rectangle to draw; 0 where the
+    /// answer has no such cell. As the plane has a column 0, number and value tell whether there is one.
+    pub x: i32,
+    /// The row of that cell, or 0.
+    pub y: i32,
+}
+
+impl MetAnswer {
+    /// An answer with the cell that was met.
+    pub fn with_cell(Answer { number, value }: Answer, (x, y): (i32, i32)) -> MetAnswer {
+        MetAnswer { number, value, x, y }
+    }
+
+    /// An answer that has no cell.
+    pub fn without_cell(answer: Answer) -> MetAnswer {
+        MetAnswer::with_cell(answer, NO_CELL)
+    }
+
+    /// A refusal that says nothing but its number.
+    pub fn refused(number: i32) -> MetAnswer {
+        MetAnswer::without_cell(Answer::refused(number))
+    }
+
+    /// The cell, or [`NO_CELL`].
+    pub fn cell(self) -> (i32, i32) {
+        (self.x, self.y)
+    }
+}
+
 /// What the density report answers.
 #[repr(C)]
 #[derive(Clone, Copy, Debug)]
@@ -125,7 +165,7 @@ extern "C" {
         list: *mut i32,
         room: usize,
     ) -> Answer;
-    fn ush_search(table: *const i32, words: usize, left: i32, bottom: i32, right: i32, top: i32) -> Answer;
+    fn ush_search(table: *const i32, words: usize, left: i32, bottom: i32, right: i32, top: i32) -> MetAnswer;
     #[rustfmt::skip]
     fn ush_enumerate(
         table: *const i32,
@@ -150,10 +190,11 @@ extern "C" {
         shares: *mut f64,
         room: usize,
     ) -> DensityReport;
-    fn ush_create(table: *mut i32, words: usize, left: i32, bottom: i32, right: i32, top: i32, label: i32) -> Answer;
+    fn ush_create(table: *mut i32, words: usize, left: i32, bottom: i32, right: i32, top: i32, label: i32)
+        -> MetAnswer;
     fn ush_delete(table: *mut i32, words: usize, x: i32, y: i32) -> Answer;
     fn ush_save(table: *const i32, words: usize, bytes: *mut u8, room: usize) -> Answer;
-    fn ush_load(table: *mut i32, words: usize, bytes: *const u8, count: usize) -> Answer;
+    fn ush_load(table: *mut i32, words: usize, bytes: *const u8, count: usize) -> MetAnswer;
 }
 
 // Why the blocks below are safe: the server asks nothing of the numbers it gets, reads and writes inside the slices
@@ -189,8 +230,8 @@ pub fn neighbours(table: &[i32], x: i32, y: i32, side: i32, list: &mut [i32]) ->
     unsafe { ush_neighbours(table.as_ptr(), table.len(), x, y, side, list.as_mut_ptr(), list.len()) }
 }
 
-/// The solid that holds the area's first occupied cell; value -1 if the area is free.
-pub fn search(table: &[i32], left: i32, bottom: i32, right: i32, top: i32) -> Answer {
+/// The solid that holds the area's first occupied cell, and that cell; value -1 if the area is free.
+pub fn search(table: &[i32], left: i32, bottom: i32, right: i32, top: i32) -> MetAnswer {
     unsafe { ush_search(table.as_ptr(), table.len(), left, bottom, right, top) }
 }
 
@@ -206,8 +247,8 @@ pub fn density(table: &[i32], area: Rect, width: i32, height: i32, shares: &mut 
     unsafe { ush_density(table.as_ptr(), words, left, bottom, right, top, width, height, shares.as_mut_ptr(), room) }
 }
 
-/// Adds a solid; value: its record.
-pub fn create(table: &mut [i32], left: i32, bottom: i32, right: i32, top: i32, label: i32) -> Answer {
+/// Adds a solid; value: its record. Where one is in the way, what search answers: the record in value, and the cell.
+pub fn create(table: &mut [i32], left: i32, bottom: i32, right: i32, top: i32, label: i32) -> MetAnswer {
     unsafe { ush_create(table.as_mut_ptr(), table.len(), left, bottom, right, top, label) }
 }
 
@@ -221,7 +262,8 @@ pub fn save(table: &[i32], bytes: &mut [u8]) -> Answer {
     unsafe { ush_save(table.as_ptr(), table.len(), bytes.as_mut_ptr(), bytes.len()) }
 }
 
-/// Makes the table the plane of a saved layout; value: the number of its records, or the first refused one's index.
-pub fn load(table: &mut [i32], bytes: &[u8]) -> Answer {
+/// Makes the table the plane of a saved layout; value: the number of its records, or the first refused one's index. No
+/// answer has a cell.
+pub fn load(table: &mut [i32], bytes: &[u8]) -> MetAnswer {
     unsafe { ush_load(table.as_mut_ptr(), table.len(), bytes.as_ptr(), bytes.len()) }
 }

@@ -28,6 +28,6 @@ pub mod tally;
 pub mod words;
 
 pub use density::{Densities, Density};
-pub use plane::{Plane, Side, MOST_SOLIDS};
+pub use plane::{Met, Plane, Side, MOST_SOLIDS};
 pub use rects::{Rect, Tile};
 pub use refusal::{BadRecord, LoadRefusal, Refusal};

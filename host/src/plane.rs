@@ -23,10 +23,19 @@ pub enum Side {
     Bottom = 3,
 }
 
+/// What blocks an area.
+#[derive(Clone, Copy, Debug, PartialEq, Eq)]
+pub struct Met {
+    /// The record of the solid that holds the cell.
+    pub record: usize,
+    /// The first occupied cell of the area, rows read from the top down and each row from left to right.
+    pub cell: (i32, i32),
+}
+
 /// A layout on one mask layer: solids, and the space between them in strips.
 ///
 /// ```
-/// use ushanderi_host::{Plane, Rect, Refusal, Side};
+/// use ushanderi_host::{Met, Plane, Rect, Refusal, Side};
 ///
 /// let mut plane = Plane::with_room(100)?;
 /// let trunk = plane.create(Rect::new(0, 0, 10, 100), 1)?;
@@ -35,8 +44,9 @@ pub enum Side {
 /// assert_eq!(plane.solids(), 2);
 /// assert_eq!(plane.find(5, 50)?, trunk);
 /// assert_eq!(plane.search(Rect::new(20, 50, 60, 90))?, None);
+/// assert_eq!(plane.search(Rect::new(20, 30, 60, 90))?, Some(Met { record: branch, cell: (20, 44) }));
 /// assert_eq!(plane.neighbours(5, 50, Side::Right)?[1], branch);
-/// assert_eq!(plane.create(Rect::new(50, 30, 70, 60), 2), Err(Refusal::Occupied { by: branch }));
+/// assert_eq!(plane.create(Rect::new(50, 30, 70, 60), 2), Err(Refusal::Occupied { by: branch, cell: (50, 44) }));
 /// # Ok::<(), Refusal>(())
 /// ```
 #[derive(Clone, Debug)]
@@ -198,24 +208,26 @@ impl Plane {
         self.listed(|list| calls::neighbours(&self.words, x, y, side as i32, list))
     }
 
-    /// The record of the solid that holds the area's first occupied cell, rows read from the top down and each row
-    /// from left to right; nothing if the area is free.
+    /// The area's first occupied cell, rows read from the top down and each row from left to right, and the record of
+    /// the solid that holds it; nothing if the area is free. The cell is one of the area, so it is not the solid's
+    /// upper left one where the solid reaches out of the area there.
     ///
     /// ```
-    /// use ushanderi_host::{Plane, Rect, Refusal};
+    /// use ushanderi_host::{Met, Plane, Rect, Refusal};
     ///
     /// let mut plane = Plane::with_room(10)?;
     /// let low = plane.create(Rect::new(0, 0, 10, 10), 1)?;
     /// let high = plane.create(Rect::new(20, 5, 30, 15), 2)?;
     /// assert_eq!(plane.search(Rect::new(10, 0, 20, 20))?, None);
-    /// assert_eq!(plane.search(Rect::new(0, 0, 30, 20))?, Some(high));
-    /// assert_eq!(plane.search(Rect::new(0, 0, 30, 5))?, Some(low));
+    /// assert_eq!(plane.search(Rect::new(0, 0, 30, 20))?, Some(Met { record: high, cell: (20, 14) }));
+    /// assert_eq!(plane.search(Rect::new(4, 0, 30, 5))?, Some(Met { record: low, cell: (4, 4) }));
     /// assert_eq!(plane.search(Rect::new(0, 0, 0, 5)), Err(Refusal::Rect));
     /// # Ok::<(), Refusal>(())
     /// ```
-    pub fn search(&self, area: Rect) -> Result<Option<usize>, Refusal> {
+    pub fn search(&self, area: Rect) -> Result<Option<Met>, Refusal> {
         let answer = calls::search(&self.words, area.left, area.bottom, area.right, area.top);
-        answer.result().map(|record| usize::try_from(record).ok())
+        let record = usize::try_from(answer.result()?).ok();
+        Ok(record.map(|record| Met { record, cell: answer.cell() }))
     }
 
     /// The records of the tiles that share a cell with the area, in directed order: those that begin at or before the
@@ -274,7 +286,8 @@ impl Plane {
         Ok(Densities { shares, lowest: report.lowest, highest: report.highest, covered: report.covered as u64 })
     }
 
-    /// Draws a solid; its record. The solids that are there keep their records.
+    /// Draws a solid; its record. The solids that are there keep their records. Where one of them is in the way, the
+    /// refusal tells what [`Plane::search`] gives for the rectangle.
     ///
     /// ```
     /// use ushanderi_host::{Plane, Rect, Refusal};
@@ -284,7 +297,7 @@ impl Plane {
     /// assert_eq!(plane.create(solid, 0), Err(Refusal::Label));
     /// let record = plane.create(solid, 1)?;
     /// assert_eq!(plane.tile(record).map(|tile| tile.rect), Some(solid));
-    /// assert_eq!(plane.create(Rect::new(9, 3, 12, 4), 2), Err(Refusal::Occupied { by: record }));
+    /// assert_eq!(plane.create(Rect::new(9, 3, 12, 4), 2), Err(Refusal::Occupied { by: record, cell: (9, 3) }));
     /// assert_eq!(plane.create(Rect::new(10, 3, 12, 4), 2), Err(Refusal::Full));
     /// # Ok::<(), Refusal>(())
     /// ```

@@ -1,5 +1,5 @@
 //! The server's refusals as Rust errors.
-use crate::calls::{number, Answer, DensityReport};
+use crate::calls::{number, Answer, DensityReport, MetAnswer, NO_CELL};
 use std::error::Error;
 use std::fmt;
 
@@ -13,6 +13,8 @@ use std::fmt;
 /// assert_eq!(answer, Answer { number: 1, value: 0 });
 /// assert_eq!(answer.result(), Err(Refusal::Size));
 /// assert_eq!(Refusal::Short { needed: 5 }.to_string(), "the list is shorter than the 5 entries needed");
+/// let blocked = Refusal::Occupied { by: 3, cell: (9, 3) };
+/// assert_eq!(blocked.to_string(), "the solid in record 3 is in the way at (9, 3)");
 /// ```
 #[derive(Clone, Copy, Debug, PartialEq, Eq)]
 pub enum Refusal {
@@ -30,6 +32,8 @@ pub enum Refusal {
     Occupied {
         /// The record of the solid that an area search gives.
         by: usize,
+        /// The cell that it gives: the first one of the rectangle that is occupied.
+        cell: (i32, i32),
     },
     /// As many solids as the table takes are present.
     Full,
@@ -58,7 +62,9 @@ impl fmt::Display for Refusal {
             Refusal::Point => write!(out, "the cell is outside the plane"),
             Refusal::Rect => write!(out, "the rectangle is empty, turned round or reaches out of the plane"),
             Refusal::Label => write!(out, "a label is 1 or more"),
-            Refusal::Occupied { by } => write!(out, "the solid in record {by} is in the way"),
+            Refusal::Occupied { by, cell: (x, y) } => {
+                write!(out, "the solid in record {by} is in the way at ({x}, {y})")
+            }
             Refusal::Full => write!(out, "the table takes no further solid"),
             Refusal::Space => write!(out, "the cell is held by space"),
             Refusal::Side => write!(out, "the side is none of the four"),
@@ -73,9 +79,16 @@ impl fmt::Display for Refusal {
 impl Error for Refusal {}
 
 impl Answer {
+    /// The value of an answer that is no refusal. The only refusal with a cell comes as a [`MetAnswer`].
+    pub fn result(self) -> Result<i32, Refusal> {
+        MetAnswer::without_cell(self).result()
+    }
+}
+
+impl MetAnswer {
     /// The value of an answer that is no refusal.
     pub fn result(self) -> Result<i32, Refusal> {
-        refusal(self.number, self.value.into()).map_or(Ok(self.value), Err)
+        refusal(self.number, self.value.into(), self.cell()).map_or(Ok(self.value), Err)
     }
 
     /// The same for a load, whose refusals tell which record was refused.
@@ -95,12 +108,12 @@ impl Answer {
 impl DensityReport {
     /// The report, if it is no refusal.
     pub fn result(self) -> Result<DensityReport, Refusal> {
-        refusal(self.number, self.value).map_or(Ok(self), Err)
+        refusal(self.number, self.value, NO_CELL).map_or(Ok(self), Err)
     }
 }
 
-/// The refusal of this number and value, if the number is one's.
-fn refusal(number: i32, value: i64) -> Option<Refusal> {
+/// The refusal of this number, value and cell, if the number is one's.
+fn refusal(number: i32, value: i64, cell: (i32, i32)) -> Option<Refusal> {
     let refusal = match number {
         number::DONE => return None,
         number::SIZE => Refusal::Size,
@@ -108,7 +121,7 @@ fn refusal(number: i32, value: i64) -> Option<Refusal> {
         number::POINT => Refusal::Point,
         number::RECT => Refusal::Rect,
         number::LABEL => Refusal::Label,
-        number::OCCUPIED => Refusal::Occupied { by: value as usize },
+        number::OCCUPIED => Refusal::Occupied { by: value as usize, cell },
         number::FULL => Refusal::Full,
         number::SPACE => Refusal::Space,
         number::SIDE => Refusal::Side,

@@ -1,6 +1,6 @@
 //! `Plane` against the rectangle-list program, through one long history: its methods hand on what the calls answer.
 use std::collections::HashSet;
-use ushanderi_host::calls::{number, Answer};
+use ushanderi_host::calls::{number, MetAnswer};
 use ushanderi_host::random::Random;
 use ushanderi_host::rects::{tiles, Solid};
 use ushanderi_host::{answers, asks, BadRecord, Densities, Density, LoadRefusal, Plane, Rect, Refusal, Side, Tile};
@@ -34,9 +34,10 @@ fn create(plane: &mut Plane, picture: &mut Vec<Solid>, solid: Solid) {
     let tile = Tile::solid(solid.rect, solid.label);
     match (plane.create(solid.rect, solid.label), answers::create(picture, ROOM, solid)) {
         (Ok(record), Ok(())) => assert_eq!(plane.tile(record), Some(tile)),
-        (Err(Refusal::Occupied { by }), Err(refused)) => {
-            let blocker = refused.blocker.expect("something is in the way");
-            assert_eq!(plane.tile(by), Some(Tile::solid(blocker.rect, blocker.label)));
+        (Err(Refusal::Occupied { by, cell }), Err(refused)) => {
+            let met = refused.met.expect("something is in the way");
+            assert_eq!(plane.tile(by), Some(Tile::solid(met.solid.rect, met.solid.label)));
+            assert_eq!(cell, met.cell);
         }
         (answer, wanted) => assert!(answer.is_err() && wanted.is_err(), "{answer:?}, wanted {wanted:?}"),
     }
@@ -57,8 +58,9 @@ fn ask(plane: &Plane, picture: &[Solid], random: &mut Random) {
         assert_eq!(beside, answers::neighbours(&all, (x, y), number as i32).ok());
     }
     assert_eq!(plane.enumerate(area).ok().map(read), answers::enumerate(&all, &area).ok());
-    let met = answers::search(picture, &area).map(|met| met.map(|(solid, _)| solid.rect));
-    let searched = plane.search(area).map(|met| met.and_then(|record| plane.tile(record)).map(|tile| tile.rect));
+    let met = answers::search(picture, &area).map(|met| met.map(|met| (Some(met.solid.rect), met.cell)));
+    let rect = |record: usize| plane.tile(record).map(|tile| tile.rect);
+    let searched = plane.search(area).map(|met| met.map(|met| (rect(met.record), met.cell)));
     assert_eq!(searched.ok(), met.ok());
 }
 
@@ -106,11 +108,11 @@ fn come_back(plane: &Plane, picture: &[Solid]) {
 /// The numbers and the words of refusals: a number without a refusal of its own would show here.
 #[test]
 fn every_refusal_has_its_words() {
-    let refused = |number: usize| Answer { number: number as i32, value: 5 };
+    let refused = |number: usize| MetAnswer { number: number as i32, value: 5, x: -7, y: 8 };
     let refusals = (1..number::NAMES.len()).map(|number| refused(number).result().expect_err("a refusal"));
     let words: HashSet<String> = refusals.map(|refusal| refusal.to_string()).collect();
     assert_eq!(words.len(), number::NAMES.len() - 1);
-    assert_eq!(refused(6).result(), Err(Refusal::Occupied { by: 5 }));
+    assert_eq!(refused(6).result(), Err(Refusal::Occupied { by: 5, cell: (-7, 8) }));
     assert_eq!(refused(10).result(), Err(Refusal::Short { needed: 5 }));
 
     let loads = (1..number::NAMES.len()).map(|number| refused(number).load_result().expect_err("a refusal"));

@@ -10,6 +10,7 @@ use denote.Ref.{now}
 use Rattle.table.specs.View.{Places, Slice, IsPart}
 use Rattle.seek.specs.Meaning.{Area}
 use Rattle.ushanderi.specs.declared.answer.Answer.{Answer}
+use Rattle.ushanderi.specs.declared.answer.MetAnswer.{MetAnswer}
 use Rattle.ushanderi.specs.declared.reports.DensityAnswer.{DensityAnswer}
 use Rattle.ushanderi.specs.Promises.{Fit, FreshSays, CheckSays, ViewSays, FindSays, NeighboursSays, SearchSays, EnumerateSays, DensitySays, CreateSays, DeleteSays, SaveSays, LoadSays}
 use Rattle.claims.specs.AgreeReads.{fresh-agrees, check-agrees, places-agree, view-placed, view-agrees, find-agrees, neighbours-agrees, search-agrees, enumerate-agrees, save-agrees}
@@ -30,16 +31,16 @@ pub record Agreement : Type 0 where
   pub find : (t : List ℤ) (x y : ℕ) (a b : Answer) → FindSays t x y a → FindSays t x y b → a ≡ b
   pub neighbours : (t : List ℤ) (x y : ℕ) (side : ℤ) (out u v : List ℤ) (a b : Answer)
       → NeighboursSays t x y side out u a → NeighboursSays t x y side out v b → (a ≡ b) × (u ≡ v)
-  pub search : (t : List ℤ) (A : Area) (a b : Answer) → SearchSays t A a → SearchSays t A b → a ≡ b
+  pub search : (t : List ℤ) (A : Area) (a b : MetAnswer) → SearchSays t A a → SearchSays t A b → a ≡ b
   pub enumerate : (t : List ℤ) (A : Area) (out u v : List ℤ) (a b : Answer)
       → EnumerateSays t A out u a → EnumerateSays t A out v b → (a ≡ b) × (u ≡ v)
   pub density : (t : List ℤ) (A : Area) (w h : ℕ) (out u v : List Float) (a b : DensityAnswer)
       → DensitySays t A w h out u a → DensitySays t A w h out v b → (a ≡ b) × (u ≡ v)
-  pub create : (t : List ℤ) (A : Area) (label : ℕ) (u v : List ℤ) (a b : Answer)
+  pub create : (t : List ℤ) (A : Area) (label : ℕ) (u v : List ℤ) (a b : MetAnswer)
       → CreateSays t A label u a → CreateSays t A label v b → CreateAgrees t u v a b
   pub delete : (t : List ℤ) (x y : ℕ) (u v : List ℤ) (a b : Answer) → DeleteSays t x y u a → DeleteSays t x y v b → DeleteAgrees u v a b
   pub save : (t : List ℤ) (out u v : List ℕ) (a b : Answer) → SaveSays t out u a → SaveSays t out v b → (a ≡ b) × (u ≡ v)
-  pub load : (t : List ℤ) (bs : List ℕ) (u v : List ℤ) (a b : Answer) → LoadSays t bs u a → LoadSays t bs v b → LoadAgrees u v a b
+  pub load : (t : List ℤ) (bs : List ℕ) (u v : List ℤ) (a b : MetAnswer) → LoadSays t bs u a → LoadSays t bs v b → LoadAgrees u v a b
   -- the solids settle the space rectangles
   pub space : (u v : List ℤ) → Fit u → Fit v → SamePicture u v → SameTiles u v
 

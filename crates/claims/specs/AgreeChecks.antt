@@ -8,10 +8,14 @@ use lib.IntN.{ℤ, pos}
 use Rattle.geometry.specs.Picture.{InPlane}
 use Rattle.table.specs.Sound.{UsedIn, SolidIn}
 use Rattle.table.specs.Forms.{Forms, sound-forms, used-is}
+use Rattle.seek.specs.Meaning.{Area, First}
 use Rattle.seek.specs.Find.{Finds, finds-one}
-use Rattle.ushanderi.specs.Answers.{DONE, answered}
+use Rattle.seek.specs.Search.{first-one}
+use Rattle.ushanderi.specs.Answers.{DONE, answered, withCell, withoutCell}
 use Rattle.ushanderi.specs.declared.answer.Answer.{Answer}
+use Rattle.ushanderi.specs.declared.answer.MetAnswer.{MetAnswer}
 use Rattle.ushanderi.specs.Promises.{Unfit, Fit}
+use Rattle.claims.specs.Terms.{OneCell}
 
 -- One check of an order: it stops the call where P holds, with R; where P does not hold the call goes on, with Q.
 pub data Then (P R Q : Type 0) : Type 0 where
@@ -47,10 +51,26 @@ unfit-agrees t a b (Unfit.size n e) (Unfit.unsound s m d) = absurd (n s)
 unfit-agrees t a b (Unfit.unsound s n e) (Unfit.size m d) = absurd (m s)
 unfit-agrees t a b (Unfit.unsound s n e) (Unfit.unsound r m d) = join e d
 
+-- the same where the answer could name a cell
+pub record UnfitMet (t : List ℤ) (a : MetAnswer) : Type 0 where
+  pub with : Answer
+  pub unfit : Unfit t with
+  pub is : a ≡ withoutCell with
+
+pub unfit-met-agrees : (t : List ℤ) (a b : MetAnswer) → UnfitMet t a → UnfitMet t b → a ≡ b
+unfit-met-agrees t a b p q = p .is ∙ ap withoutCell (unfit-agrees t (p .with) (q .with) (p .unfit) (q .unfit)) ∙ sym (q .is)
+
 -- ---- what a fit table gives
 
 pub fit-forms : (t : List ℤ) → Fit t → Forms t
 fit-forms t f = sound-forms t (f .size .most) (f .sound)
+
+-- one solid holds an area's first occupied cell, and it is one cell
+pub met-one : (t : List ℤ) → Fit t → (A : Area) (n x y i x′ y′ j : ℕ) → First t A x y i → First t A x′ y′ j
+    → withCell (answered n i) x y ≡ withCell (answered n j) x′ y′
+met-one t f A n x y i x′ y′ j p q =
+    let s = first-one t (fit-forms t f) A x y i x′ y′ j p q in
+    λ k. withCell (answered n (s .number k)) (s .column k) (s .row k)
 
 pub fit-finds-one : (t : List ℤ) → Fit t → (x y i j : ℕ) → Finds t x y i → Finds t x y j → i ≡ j
 fit-finds-one t f x y i j h k = finds-one t (fit-forms t f) x y i j h k
@@ -69,17 +89,23 @@ solid-used t i s = record { below = s .below; used = λ e. omega (arith, s .kind
 pub number-is : {a : Answer} {n value : ℕ} → a ≡ answered n value → a .number ≡ pos n
 number-is e = ap (λ a. a .number) e
 
-pub not-done : {a : Answer} {n value : ℕ} → a ≡ answered n value → n ≢ DONE → a .number ≡ pos DONE → ⊥
-not-done {n = n} e d h =
-    let z : pos n ≡ pos DONE = sym (number-is e) ∙ h in
-    let q : n ≡ DONE = cc in
-    d q
+-- the same where the answer has a cell
+pub met-number : {a : MetAnswer} {n : ℕ} {value x y : ℤ} → a ≡ record { number = pos n; value = value; x = x; y = y } → a .number ≡ pos n
+met-number e = ap (λ a. a .number) e
 
-pub number-one : {a : Answer} {m n value : ℕ} → a ≡ answered m value → a .number ≡ pos n → m ≡ n
+-- answers with the same two fields name one cell
+pub one-cell : {a b : MetAnswer} {m n v w x y : ℤ} → a ≡ record { number = m; value = v; x = x; y = y } → b ≡ record { number = n; value = w; x = x; y = y }
+    → OneCell a b
+one-cell e d = (ap (λ a. a .x) e ∙ sym (ap (λ a. a .x) d), ap (λ a. a .y) e ∙ sym (ap (λ a. a .y) d))
+
+pub number-one : {z : ℤ} {m n : ℕ} → z ≡ pos m → z ≡ pos n → m ≡ n
 number-one {m = m} {n = n} e h =
-    let z : pos m ≡ pos n = sym (number-is e) ∙ h in
+    let q : pos m ≡ pos n = sym e ∙ h in
     cc
 
+pub not-done : {z : ℤ} {n : ℕ} → z ≡ pos n → n ≢ DONE → z ≡ pos DONE → ⊥
+not-done e d h = d (number-one e h)
+
 pub unfit-not-done : (t : List ℤ) (a : Answer) → Unfit t a → a .number ≡ pos DONE → ⊥
-unfit-not-done t a (Unfit.size n e) h = not-done e (λ e. omega arith) h
-unfit-not-done t a (Unfit.unsound s n e) h = not-done e (λ e. omega arith) h
+unfit-not-done t a (Unfit.size n e) h = not-done (number-is e) (λ e. omega arith) h
+unfit-not-done t a (Unfit.unsound s n e) h = not-done (number-is e) (λ e. omega arith) h

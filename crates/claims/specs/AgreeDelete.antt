@@ -59,9 +59,9 @@ delete-order t x y t′ a (DeleteSays.done i d e) =
 
 pub delete-done : {t : List ℤ} {x y : ℕ} {t′ : List ℤ} {a : Answer} → DeleteSays t x y t′ a → a .number ≡ pos DONE → Deleted t x y t′ a
 delete-done {t} {a = a} (DeleteSays.refuses (DeleteRefuses.unfit n) w) h = absurd (unfit-not-done t a n h)
-delete-done (DeleteSays.refuses (DeleteRefuses.point f n e) w) h = absurd (not-done e (λ e. omega arith) h)
-delete-done (DeleteSays.refuses (DeleteRefuses.space f i m k e) w) h = absurd (not-done e (λ e. omega arith) h)
-delete-done (DeleteSays.refuses (DeleteRefuses.room f i m s n e) w) h = absurd (not-done e (λ e. omega arith) h)
+delete-done (DeleteSays.refuses (DeleteRefuses.point f n e) w) h = absurd (not-done (number-is e) (λ e. omega arith) h)
+delete-done (DeleteSays.refuses (DeleteRefuses.space f i m k e) w) h = absurd (not-done (number-is e) (λ e. omega arith) h)
+delete-done (DeleteSays.refuses (DeleteRefuses.room f i m s n e) w) h = absurd (not-done (number-is e) (λ e. omega arith) h)
 delete-done (DeleteSays.done i d e) h = record { at = i; done = d; is = e }
 
 -- ---- two answers to one delete
@@ -85,7 +85,7 @@ removes-same t u v i p q =
 module _ (t : List ℤ) (x y : ℕ) (u v : List ℤ) (a b : Answer) where
   refused-same : (n : ℕ) → n ≢ DONE → (a ≡ refused n) × (u ≡ t) → (b ≡ refused n) × (v ≡ t) → DeleteAgrees u v a b
   refused-same n d p q =
-      record { answer = join (p .0) (q .0); refused = λ h. join (p .1) (q .1); done = λ h. absurd (not-done (p .0) d h) }
+      record { answer = join (p .0) (q .0); refused = λ h. join (p .1) (q .1); done = λ h. absurd (not-done (number-is (p .0)) d h) }
 
   unfit-same : Unfit t a × (u ≡ t) → Unfit t b × (v ≡ t) → DeleteAgrees u v a b
   unfit-same p q =

@@ -1,5 +1,5 @@
 -- Two answers that load's promise allows agree, but for the records of solids and of space tiles. Assumes nothing.
-use mathlib.Core.Path.{_≡_, refl, sym, ap, subst}
+use mathlib.Core.Path.{_≡_, refl, sym, ap, _∙_, subst}
 use mathlib.Core.Logic.{_≢_}
 use mathlib.Core.List.{List}
 use Prim.Native.Nat.{ℕ, _/_, _%_, _≤_, _<_}
@@ -11,10 +11,10 @@ use Rattle.table.specs.Sound.{SizeRight}
 use Rattle.table.specs.Fresh.{freshTable}
 use Rattle.table.specs.FreshSound.{fresh-length, fresh-sound}
 use Rattle.layout.specs.Bytes.{savedAt, SAVED}
-use Rattle.ushanderi.specs.Answers.{DONE, SIZE, FILE, answered, accepted, refused}
-use Rattle.ushanderi.specs.declared.answer.Answer.{Answer}
+use Rattle.ushanderi.specs.Answers.{DONE, SIZE, FILE, answered, accepted, refused, withoutCell}
+use Rattle.ushanderi.specs.declared.answer.MetAnswer.{MetAnswer}
 use Rattle.ushanderi.specs.Promises.{Fit, CreateDone, CreateSays, areaIn, Built, LoadStops, LoadSays}
-use Rattle.claims.specs.AgreeChecks.{Then, stops, goes, same, join, number-is, not-done}
+use Rattle.claims.specs.AgreeChecks.{Then, stops, goes, same, join, met-number, number-one, not-done}
 use Rattle.claims.specs.AgreeTables.{Alike, alike-self, alike-renumbered}
 use Rattle.claims.specs.AgreeCreate.{refuses-not-done, create-alike}
 use Rattle.claims.specs.Terms.{LoadAgrees, Stop}
@@ -38,7 +38,8 @@ module _ (t : List ℤ) (s : SizeRight t) (bs : List ℕ) where
       let q : l ≡ k = omega arith in
       let h = built-alike k l w z (sym q) b d in
       let g′ : CreateDone z (areaIn bs k) (savedAt bs k .label) v j = subst (λ n. CreateDone z (areaIn bs n) (savedAt bs n .label) v j) q g in
-      create-alike w z (areaIn bs k) (savedAt bs k .label) u v (accepted i) (accepted j) h (CreateSays.done i c refl) (CreateSays.done j g′ refl) .done refl
+      create-alike w z (areaIn bs k) (savedAt bs k .label) u v (withoutCell (accepted i)) (withoutCell (accepted j)) h (CreateSays.done i c refl)
+      (CreateSays.done j g′ refl) .done refl
 
   pub built-fit : (n : ℕ) (u : List ℤ) → Built (length t) bs n u → Fit u
   built-fit n u b = built-alike n n u u refl b b .left
@@ -61,15 +62,15 @@ module _ (t : List ℤ) (s : SizeRight t) (bs : List ℕ) where
   no-step n number p q =
       let l = built-alike n n (p .before) (q .before) refl (p .built) (q .built) in
       refuses-not-done (p .refuses)
-      (create-alike (p .before) (q .before) (areaIn bs n) (savedAt bs n .label) (p .before) (q .after) (answered number (p .value)) (accepted (q .at)) l
+      (create-alike (p .before) (q .before) (areaIn bs n) (savedAt bs n .label) (p .before) (q .after) (p .refusal) (withoutCell (accepted (q .at))) l
       (CreateSays.refuses (p .refuses) refl) (CreateSays.done (q .at) (q .done) refl) .number)
 
   stop-number : (n c d : ℕ) → Stop t bs n c → Stop t bs n d → c ≡ d
   stop-number n c d p q =
       let l = built-alike n n (p .before) (q .before) refl (p .built) (q .built) in
-      let e = create-alike (p .before) (q .before) (areaIn bs n) (savedAt bs n .label) (p .before) (q .before) (answered c (p .value)) (answered d (q .value)) l
+      let e = create-alike (p .before) (q .before) (areaIn bs n) (savedAt bs n .label) (p .before) (q .before) (p .refusal) (q .refusal) l
       (CreateSays.refuses (p .refuses) refl) (CreateSays.refuses (q .refuses) refl) .number in
-      cc
+      number-one (p .is) (e ∙ q .is)
 
   stop-before : (m n c d : ℕ) → Stop t bs m c → Stop t bs n d → n ≤ m
   stop-before m n c d p q = lt-cases m n (λ h. absurd (no-step m c p (step-of n (q .before) (q .built) m h))) (λ h. h)
@@ -82,56 +83,57 @@ module _ (t : List ℤ) (s : SizeRight t) (bs : List ℕ) where
 -- ---- two answers to one load
 
 module _ (t : List ℤ) (bs : List ℕ) where
-  record Stopped (s : SizeRight t) (t′ : List ℤ) (a : Answer) : Type 0 where
+  record Stopped (s : SizeRight t) (t′ : List ℤ) (a : MetAnswer) : Type 0 where
     n : ℕ
     number : ℕ
     below : n < length bs / SAVED
     stop : Stop t bs n number
-    is : a ≡ answered number n
+    is : a ≡ withoutCell (answered number n)
     fresh : t′ ≡ freshTable (length t)
 
-  data Ended (s : SizeRight t) (t′ : List ℤ) (a : Answer) : Type 0 where
+  data Ended (s : SizeRight t) (t′ : List ℤ) (a : MetAnswer) : Type 0 where
     stopped : Stopped s t′ a → Ended s t′ a
-    done : Built (length t) bs (length bs / SAVED) t′ → a ≡ accepted (length bs / SAVED) → Ended s t′ a
+    done : Built (length t) bs (length bs / SAVED) t′ → a ≡ withoutCell (accepted (length bs / SAVED)) → Ended s t′ a
 
-  abbrev Checked : List ℤ → Answer → Type 0
+  abbrev Checked : List ℤ → MetAnswer → Type 0
   Checked t′ a =
-      Then (SizeRight t → ⊥) ((a ≡ refused SIZE) × (t′ ≡ t))
-      (SizeRight t × Then (length bs % SAVED ≢ 0) ((a ≡ refused FILE) × (t′ ≡ t)) ((s : SizeRight t) → Ended s t′ a))
+      Then (SizeRight t → ⊥) ((a ≡ withoutCell (refused SIZE)) × (t′ ≡ t))
+      (SizeRight t × Then (length bs % SAVED ≢ 0) ((a ≡ withoutCell (refused FILE)) × (t′ ≡ t)) ((s : SizeRight t) → Ended s t′ a))
 
-  load-order : (t′ : List ℤ) (a : Answer) → LoadSays t bs t′ a → Checked t′ a
+  load-order : (t′ : List ℤ) (a : MetAnswer) → LoadSays t bs t′ a → Checked t′ a
   load-order t′ a (LoadSays.size n e w) = stops n (e, w)
   load-order t′ a (LoadSays.file s n e w) = goes (λ m. m s) (s, stops n (e, w))
-  load-order t′ a (LoadSays.stopped (LoadStops.stops s z n c i u h b k e) w) =
+  load-order t′ a (LoadSays.stopped (LoadStops.stops s z n c u o h b k d e) w) =
       goes (λ m. m s) (
         s,
         goes (λ m. m z) (λ r. stopped (record {
           n = n;
           number = c;
           below = h;
-          stop = record { before = u; built = b; value = i; refuses = k };
+          stop = record { before = u; built = b; refusal = o; refuses = k; is = d };
           is = e;
           fresh = w;
         })),
       )
   load-order t′ a (LoadSays.done s z b e) = goes (λ m. m s) (s, goes (λ m. m z) (λ r. done b e))
 
-  module _ (u v : List ℤ) (a b : Answer) where
-    refused-same : (n i : ℕ) (w : List ℤ) → n ≢ DONE → (a ≡ answered n i) × (u ≡ w) → (b ≡ answered n i) × (v ≡ w) → LoadAgrees u v a b
-    refused-same n i w d p q = record { answer = join (p .0) (q .0); refused = λ h. join (p .1) (q .1); done = λ h. absurd (not-done (p .0) d h) }
+  module _ (u v : List ℤ) (a b : MetAnswer) where
+    refused-same : (n i : ℕ) (w : List ℤ) → n ≢ DONE → (a ≡ withoutCell (answered n i)) × (u ≡ w) → (b ≡ withoutCell (answered n i)) × (v ≡ w)
+        → LoadAgrees u v a b
+    refused-same n i w d p q = record { answer = join (p .0) (q .0); refused = λ h. join (p .1) (q .1); done = λ h. absurd (not-done (met-number (p .0)) d h) }
 
     ended-same : (s : SizeRight t) → Ended s u a → Ended s v b → LoadAgrees u v a b
     ended-same s (stopped p) (stopped q) =
         let (e, d) = stop-one t s bs (q .n) (p .n) (q .number) (p .number) (q .stop) (p .stop) in
-        refused-same (p .number) (p .n) (freshTable (length t)) (λ e. refuses-not-done (p .stop .refuses) (ap pos e)) (p .is, p .fresh)
-        (subst (λ n. b ≡ answered (p .number) n) e (subst (λ c. b ≡ answered c (q .n)) d (q .is)), q .fresh)
+        refused-same (p .number) (p .n) (freshTable (length t)) (λ e. refuses-not-done (p .stop .refuses) (p .stop .is ∙ ap pos e)) (p .is, p .fresh)
+        (subst (λ n. b ≡ withoutCell (answered (p .number) n)) e (subst (λ c. b ≡ withoutCell (answered c (q .n))) d (q .is)), q .fresh)
     ended-same s (stopped p) (done c e) = absurd (no-step t s bs (p .n) (p .number) (p .stop) (step-of t s bs (length bs / SAVED) v c (p .n) (p .below)))
     ended-same s (done c e) (stopped q) = absurd (no-step t s bs (q .n) (q .number) (q .stop) (step-of t s bs (length bs / SAVED) u c (q .n) (q .below)))
     ended-same s (done c e) (done d g) =
         let l = built-alike t s bs (length bs / SAVED) (length bs / SAVED) u v refl c d in
         record {
           answer = join e g;
-          refused = λ h. absurd (h (number-is e));
+          refused = λ h. absurd (h (met-number e));
           done = λ h. alike-renumbered u v l;
         }
 

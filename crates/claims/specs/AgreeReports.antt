@@ -17,7 +17,7 @@ use Rattle.ushanderi.specs.Answers.{DONE, RECT, SHORT, STEP, answered, refused,
 use Rattle.ushanderi.specs.declared.answer.Answer.{Answer}
 use Rattle.ushanderi.specs.declared.reports.DensityAnswer.{DensityAnswer}
 use Rattle.ushanderi.specs.Promises.{Unfit, DensitySays}
-use Rattle.claims.specs.AgreeChecks.{Then, stops, goes, same, join, NotFit, not-fit, unfit-agrees, number-one, unfit-not-done}
+use Rattle.claims.specs.AgreeChecks.{Then, stops, goes, same, join, NotFit, not-fit, unfit-agrees, not-done, unfit-not-done}
 use Rattle.claims.specs.Terms.{Given}
 
 -- ---- one report
@@ -99,15 +99,15 @@ module _ (t : List ℤ) (A : Area) (w h : ℕ) (out u v : List Float) (a b : Den
 
 -- ---- by the answer's number
 
--- a refusal's number is that of its answer
-pub refusal-number : {a : DensityAnswer} {m n value : ℕ} → a ≡ unreported (answered m value) → a .number ≡ pos n → m ≡ n
-refusal-number {m = m} {value = value} e h = number-one {a = answered m value} refl (sym (ap (λ a. a .number) e) ∙ h)
+-- the number of a refused report
+pub report-number : {a : DensityAnswer} {n value : ℕ} → a ≡ unreported (answered n value) → a .number ≡ pos n
+report-number e = ap (λ a. a .number) e
 
 -- DONE is the one case of that name
 pub density-done : {t : List ℤ} {A : Area} {w h : ℕ} {out out′ : List Float} {a : DensityAnswer} → DensitySays t A w h out out′ a → a .number ≡ pos DONE
     → Given t A w h out out′ a
 density-done {t} (DensitySays.unfit b n e z) d = absurd (unfit-not-done t b n (sym (ap (λ a. a .number) e) ∙ d))
-density-done (DensitySays.rect f n e z) d = absurd (omega (arith, refusal-number e d))
-density-done (DensitySays.step f r n e z) d = absurd (omega (arith, refusal-number e d))
-density-done (DensitySays.short f r s o e z) d = absurd (omega (arith, refusal-number e d))
+density-done (DensitySays.rect f n e z) d = absurd (not-done (report-number e) (λ e. omega arith) d)
+density-done (DensitySays.step f r n e z) d = absurd (not-done (report-number e) (λ e. omega arith) d)
+density-done (DensitySays.short f r s o e z) d = absurd (not-done (report-number e) (λ e. omega arith) d)
 density-done (DensitySays.done f r s o g p e) d = record { rect = r; steps = s; report = g; reports = p; is = e }

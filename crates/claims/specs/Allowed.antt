@@ -11,15 +11,16 @@ use Rattle.table.specs.Sound.{capacity, solidsIn, SolidIn, SpaceIn}
 use Rattle.seek.specs.Meaning.{Area, RectRight, FreeArea, First, Directed}
 use Rattle.seek.specs.Find.{Finds}
 use Rattle.seek.specs.Neighbours.{sideOf, Neighbours}
-use Rattle.seek.specs.Search.{first-one, free-no-first}
+use Rattle.seek.specs.Search.{free-no-first}
 use Rattle.layout.specs.Order.{Saves}
 use Rattle.layout.specs.OneOrder.{order-length, saves-bytes}
 use Rattle.layout.specs.Bytes.{SAVED}
-use Rattle.ushanderi.specs.Answers.{OCCUPIED, FULL, POINT, SPACE, answered, accepted, refused, nothing}
+use Rattle.ushanderi.specs.Answers.{OCCUPIED, FULL, POINT, SPACE, answered, accepted, refused, nothing, withCell, withoutCell}
 use Rattle.ushanderi.specs.declared.answer.Answer.{Answer}
+use Rattle.ushanderi.specs.declared.answer.MetAnswer.{MetAnswer}
 use Rattle.ushanderi.specs.Edits.{labelIn}
 use Rattle.ushanderi.specs.Promises.{Fit, FindSays, listed, NeighboursSays, SearchSays, EnumerateSays, CreateRefuses, CreateAllows, CreateSays, DeleteRefuses, DeleteDone, DeleteSays, SaveSays}
-use Rattle.claims.specs.AgreeChecks.{not-fit, fit-forms, fit-finds-one, finds-inside}
+use Rattle.claims.specs.AgreeChecks.{not-fit, met-one, fit-finds-one, finds-inside}
 use Rattle.claims.specs.AgreeReads.{find-agrees, neighbours-agrees, search-agrees, enumerate-agrees}
 use Rattle.claims.specs.HistoryExact.{never-room}
 use Rattle.claims.specs.Terms.{Created}
@@ -30,8 +31,8 @@ pub record Saved (t : List ℤ) (out out′ : List ℕ) (a : Answer) : Type 0 wh
   pub saves : Saves t out out′ (SAVED * solidsIn t)
 
 -- no create is refused where none of its checks holds
-pub never-refused : {t : List ℤ} {A : Area} {label : ℕ} {a : Answer} → CreateAllows t A label → CreateRefuses t A label a → ⊥
-never-refused {t} {a = a} g (CreateRefuses.unfit u) = not-fit t a u (g .fit)
+pub never-refused : {t : List ℤ} {A : Area} {label : ℕ} {a : MetAnswer} → CreateAllows t A label → CreateRefuses t A label a → ⊥
+never-refused {t} g (CreateRefuses.unfit b u e) = not-fit t b u (g .fit)
 never-refused g (CreateRefuses.rect f m e) = m (g .rect)
 never-refused g (CreateRefuses.label f s m e) = omega (arith, g .named)
 never-refused {t} {A} g (CreateRefuses.occupied f s m x y i p e) = free-no-first t A x y i (g .free) p
@@ -46,11 +47,11 @@ module _ (t : List ℤ) (f : Fit t) where
   pub find-point : (x y : ℕ) (a : Answer) → (InPlane x y → ⊥) → FindSays t x y a → a ≡ refused POINT
   find-point x y a n s = find-agrees t x y a (refused POINT) s (FindSays.point f n refl)
 
-  pub search-free : (A : Area) (a : Answer) → RectRight A → FreeArea t A → SearchSays t A a → a ≡ nothing
-  search-free A a r h s = search-agrees t A a nothing s (SearchSays.free f r h refl)
+  pub search-free : (A : Area) (a : MetAnswer) → RectRight A → FreeArea t A → SearchSays t A a → a ≡ withoutCell nothing
+  search-free A a r h s = search-agrees t A a (withoutCell nothing) s (SearchSays.free f r h refl)
 
-  pub search-met : (A : Area) (x y i : ℕ) (a : Answer) → RectRight A → First t A x y i → SearchSays t A a → a ≡ accepted i
-  search-met A x y i a r h s = search-agrees t A a (accepted i) s (SearchSays.met f r x y i h refl)
+  pub search-met : (A : Area) (x y i : ℕ) (a : MetAnswer) → RectRight A → First t A x y i → SearchSays t A a → a ≡ withCell (accepted i) x y
+  search-met A x y i a r h s = search-agrees t A a (withCell (accepted i) x y) s (SearchSays.met f r x y i h refl)
 
   pub neighbours-are : (x y i s : ℕ) (ks : List ℕ) (out out′ : List ℤ) (a : Answer) → s < 4 → Finds t x y i → Neighbours t (sideOf s) i ks
       → length ks ≤ length out → NeighboursSays t x y (pos s) out out′ a → (a ≡ accepted (length ks)) × (out′ ≡ listed ks out)
@@ -65,25 +66,25 @@ module _ (t : List ℤ) (f : Fit t) where
 
   -- ---- create
 
-  module _ (A : Area) (label : ℕ) (r : RectRight A) (l : ZERO < label) (t′ : List ℤ) (a : Answer) where
+  module _ (A : Area) (label : ℕ) (r : RectRight A) (l : ZERO < label) (t′ : List ℤ) (a : MetAnswer) where
     pub creates : FreeArea t A → solidsIn t < capacity (recordsOf t) → CreateSays t A label t′ a → Created t A label t′ a
     creates h n (CreateSays.refuses o w) = absurd (never-refused (record { fit = f; rect = r; named = l; free = h; few = n }) o)
     creates h n (CreateSays.done k d e) = record { at = k; done = d; is = e }
 
-    pub is-full : FreeArea t A → solidsIn t ≡ capacity (recordsOf t) → CreateSays t A label t′ a → (a ≡ refused FULL) × (t′ ≡ t)
-    is-full h n (CreateSays.refuses (CreateRefuses.unfit u) e) = absurd (not-fit t a u f)
+    pub is-full : FreeArea t A → solidsIn t ≡ capacity (recordsOf t) → CreateSays t A label t′ a → (a ≡ withoutCell (refused FULL)) × (t′ ≡ t)
+    is-full h n (CreateSays.refuses (CreateRefuses.unfit b u e) q) = absurd (not-fit t b u f)
     is-full h n (CreateSays.refuses (CreateRefuses.rect g m e) q) = absurd (m r)
     is-full h n (CreateSays.refuses (CreateRefuses.label g s m e) q) = absurd (omega arith)
     is-full h n (CreateSays.refuses (CreateRefuses.occupied g s m x y i p e) q) = absurd (free-no-first t A x y i h p)
     is-full h n (CreateSays.refuses (CreateRefuses.full g s m o c e) q) = (e, q)
     is-full h n (CreateSays.done k d e) = absurd (omega (arith, d .allows .few))
 
-    pub is-occupied : (x y i : ℕ) → First t A x y i → CreateSays t A label t′ a → (a ≡ answered OCCUPIED i) × (t′ ≡ t)
-    is-occupied x y i h (CreateSays.refuses (CreateRefuses.unfit u) e) = absurd (not-fit t a u f)
+    pub is-occupied : (x y i : ℕ) → First t A x y i → CreateSays t A label t′ a → (a ≡ withCell (answered OCCUPIED i) x y) × (t′ ≡ t)
+    is-occupied x y i h (CreateSays.refuses (CreateRefuses.unfit b u e) q) = absurd (not-fit t b u f)
     is-occupied x y i h (CreateSays.refuses (CreateRefuses.rect g m e) q) = absurd (m r)
     is-occupied x y i h (CreateSays.refuses (CreateRefuses.label g s m e) q) = absurd (omega arith)
     is-occupied x y i h (CreateSays.refuses (CreateRefuses.occupied g s m x′ y′ i′ p e) q) =
-        (e ∙ ap (answered OCCUPIED) (first-one t (fit-forms t f) A x′ y′ i′ x y i p h .number), q)
+        (e ∙ met-one t f A OCCUPIED x′ y′ i′ x y i p h, q)
     is-occupied x y i h (CreateSays.refuses (CreateRefuses.full g s m o c e) q) = absurd (free-no-first t A x y i o h)
     is-occupied x y i h (CreateSays.done k d e) = absurd (free-no-first t A x y i (d .allows .free) h)
 

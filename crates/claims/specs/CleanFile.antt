@@ -11,8 +11,8 @@ use Rattle.table.specs.Sound.{SizeRight, capacity}
 use Rattle.table.specs.FreshSound.{fresh-length}
 use Rattle.seek.specs.Meaning.{FreeArea}
 use Rattle.layout.specs.Bytes.{savedAt, SAVED}
-use Rattle.ushanderi.specs.Answers.{accepted}
-use Rattle.ushanderi.specs.declared.answer.Answer.{Answer}
+use Rattle.ushanderi.specs.Answers.{accepted, withoutCell}
+use Rattle.ushanderi.specs.declared.answer.MetAnswer.{MetAnswer}
 use Rattle.ushanderi.specs.Promises.{CreateAllows, areaIn, Built, LoadStops, LoadSays}
 use Rattle.claims.specs.AgreePicture.{shows}
 use Rattle.claims.specs.History.{filed, filedAt, Kept}
@@ -45,8 +45,9 @@ module _ (t : List ℤ) (s : SizeRight t) (bs : List ℕ) where
           few = omega (arith, c .few, k .number, filed-length bs n, built-length n u b);
         }
 
-    pub clean-loads : (t′ : List ℤ) (a : Answer) → LoadSays t bs t′ a → (a ≡ accepted (length bs / SAVED)) × Built (length t) bs (length bs / SAVED) t′
+    pub clean-loads : (t′ : List ℤ) (a : MetAnswer) → LoadSays t bs t′ a
+        → (a ≡ withoutCell (accepted (length bs / SAVED))) × Built (length t) bs (length bs / SAVED) t′
     clean-loads t′ a (LoadSays.size n e w) = absurd (n s)
     clean-loads t′ a (LoadSays.file z n e w) = absurd (n (c .whole))
-    clean-loads t′ a (LoadSays.stopped (LoadStops.stops z r n number value u h b d e) w) = absurd (never-refused (next-allowed n u h b) d)
+    clean-loads t′ a (LoadSays.stopped (LoadStops.stops z r n number u o h b d q e) w) = absurd (never-refused (next-allowed n u h b) d)
     clean-loads t′ a (LoadSays.done z r b e) = (e, b)

@@ -2,12 +2,12 @@
 -- no other answer is allowed. Assumes nothing.
 use mathlib.Core.Path.{_≡_, refl, sym, ap, _∙_, subst}
 use mathlib.Core.List.{List, [], _∷_, _++_, map, List·Memᴰ·head, List·Memᴰ·tail, List·Memᴰ·not-nil}
-use Prim.Native.Nat.{ℕ, zero, suc, _/_, _-_, _≤_, _<_}
+use Prim.Native.Nat.{ℕ, zero, suc, _/_, _-_, _≤_, _<_, _^_}
 use native.Mathlib.Nat.{not-suc-le-zero, le-of-suc-le-suc}
 use native.Mathlib.Omega.{arith}
 use lib.IntN.{ℤ, pos}
 use lib.ListN.{length, getD, length-map}
-use Rattle.ruler.specs.Ruler.{ruler}
+use Rattle.ruler.specs.Ruler.{ruler, word-ruler}
 use Rattle.geometry.specs.Cases.{eq-cases}
 use Rattle.geometry.specs.Picture.{ZERO, InPlane, Tile, Has}
 use Rattle.table.specs.Words
@@ -21,8 +21,9 @@ use Rattle.seek.specs.Find.{Finds}
 use Rattle.seek.specs.Neighbours.{sideOf, Neighbours}
 use Rattle.seek.specs.Once.{times, times-here, times-other}
 use Rattle.seek.specs.Order.{directed-lists}
-use Rattle.ushanderi.specs.Answers.{DONE, FULL, accepted, refused}
+use Rattle.ushanderi.specs.Answers.{DONE, OCCUPIED, FULL, answered, accepted, refused, withCell, withoutCell}
 use Rattle.ushanderi.specs.declared.answer.Answer.{Answer}
+use Rattle.ushanderi.specs.declared.answer.MetAnswer.{MetAnswer}
 use Rattle.ushanderi.specs.Edits.{drawn}
 use Rattle.ushanderi.specs.Promises.{Fit, FindSays, FreshSays, listed, NeighboursSays, EnumerateSays, CreateSays, DeleteSays}
 use Rattle.claims.specs.AgreeChecks.{fit-forms, fit-finds-one, solid-used}
@@ -35,7 +36,7 @@ use Rattle.claims.specs.Tests.{findsb, findsb-finds, listsb, rootb, root
 use Rattle.claims.specs.Tables.{ab, abcd, one-draws, ab-draws, abc-draws, abcd-draws, full-draws, ab-spaces, ab-solids, abcd-spaces, full-spaces}
 use Rattle.claims.specs.Allowed.{find-is, find-point, search-free, search-met, neighbours-are, enumerated-are, creates, is-full, is-occupied, deletes, is-space}
 use Rattle.claims.specs.Examples
-use Rattle.claims.specs.Examples.{Answers, Lends, Example, holds, AllHold, end, _and_, ABC, bottomStrip, leftOfA, gap, rightOfB, strip10to15, leftOfC, rightOfC, topStrip, examples}
+use Rattle.claims.specs.Examples.{Answers, AnswersAt, Lends, Example, holds, AllHold, end, _and_, ABC, bottomStrip, leftOfA, gap, rightOfB, strip10to15, leftOfC, rightOfC, topStrip, examples}
 use Rattle.claims.specs.Terms.{Shows, SamePicture, Created}
 use Rattle.claims.specs.Drawing.{solid, space, area, neg, E, -E, A, B, C, D, W, Draws, areaOf, full, blank}
 
@@ -178,35 +179,45 @@ met : (t : List ℤ) (R : Area) (x y : ℕ) (v : Tile) → Shows t v → Has v x
 met t R x y v s h o n =
     (s .at, record { inside = o; solid = s .solid; has = subst (λ w. Has w x y) (sym (s .is)) h; none-before = n }, solid-used t (s .at) (s .solid), s .is)
 
-searched-C : holds (Example.searched ABC (area (pos 5) (pos 0) (pos 25) (pos 20)) C)
+-- an answer that names a solid and a cell, by the cell's words
+named : (t : List ℤ) (number i x y : ℕ) (v : Tile) (a : MetAnswer) → x < 2 ^ 31 → y < 2 ^ 31 → a ≡ withCell (answered number i) (ruler (pos x)) (ruler (pos y))
+    → UsedIn t i → tileOf t i ≡ v → AnswersAt t number v (pos x) (pos y) a
+named t number i x y v a f g e u q =
+    record {
+      tile = record { at = i; is = ap (λ a. record { number = a .number; value = a .value }) e; used = u; tile = q };
+      column = ap (λ a. a .x) e ∙ word-ruler (pos x) (record { sfits = f });
+      row = ap (λ a. a .y) e ∙ word-ruler (pos y) (record { sfits = g });
+    }
+
+searched-C : holds (Example.searched ABC (area (pos 5) (pos 0) (pos 25) (pos 20)) C (pos 5) (pos 19))
 unfolding ruler
 searched-C t d a s =
     let R = area (pos 5) (pos 0) (pos 25) (pos 20) in
     let (i, f, u, e) = met t R (ruler (pos 5)) (ruler (pos 19)) C (d .all C (search (List·Memᴰ·head, List·Memᴰ·tail))) (omega arith) (omega arith) none in
-    record { at = i; is = search-met t (d .fit) R (ruler (pos 5)) (ruler (pos 19)) i a (omega arith) f s; used = u; tile = e }
+    named t DONE i 5 19 C a (omega arith) (omega arith) (search-met t (d .fit) R (ruler (pos 5)) (ruler (pos 19)) i a (omega arith) f s) u e
   where
     none : (x y : ℕ) → InArea (area (pos 5) (pos 0) (pos 25) (pos 20)) x y → Before x y (ruler (pos 5)) (ruler (pos 19)) → FreeCell t x y
     none x y h (higher b) = absurd (omega arith)
     none x y h (same-row e b) = absurd (omega arith)
 
-searched-A : holds (Example.searched ABC (area (pos 0) (pos 0) (pos 30) (pos 15)) A)
+searched-A : holds (Example.searched ABC (area (pos 0) (pos 0) (pos 30) (pos 15)) A (pos 0) (pos 9))
 unfolding ruler
 searched-A t d a s =
     let R = area (pos 0) (pos 0) (pos 30) (pos 15) in
     let (i, f, u, e) = met t R (ruler (pos 0)) (ruler (pos 9)) A (d .all A (List·Memᴰ·head refl)) (omega arith) (omega arith) none in
-    record { at = i; is = search-met t (d .fit) R (ruler (pos 0)) (ruler (pos 9)) i a (omega arith) f s; used = u; tile = e }
+    named t DONE i 0 9 A a (omega arith) (omega arith) (search-met t (d .fit) R (ruler (pos 0)) (ruler (pos 9)) i a (omega arith) f s) u e
   where
     none : (x y : ℕ) → InArea (area (pos 0) (pos 0) (pos 30) (pos 15)) x y → Before x y (ruler (pos 0)) (ruler (pos 9)) → FreeCell t x y
     none x y h (higher b) = draws-free t ABC x y d (λ k. omega arith, (λ k. omega arith, (λ k. omega arith, tt)))
     none x y h (same-row e b) = absurd (omega arith)
 
-occupied-A : holds (Example.occupied ABC (area (pos 9) (pos 3) (pos 12) (pos 4)) 4 A)
+occupied-A : holds (Example.occupied ABC (area (pos 9) (pos 3) (pos 12) (pos 4)) 4 A (pos 9) (pos 3))
 unfolding ruler
 occupied-A t d t′ a s =
     let R = area (pos 9) (pos 3) (pos 12) (pos 4) in
     let (i, f, u, e) = met t R (ruler (pos 9)) (ruler (pos 3)) A (d .all A (List·Memᴰ·head refl)) (omega arith) (omega arith) none in
     let (q, w) = is-occupied t (d .fit) R (ruler (pos 4)) (omega arith) (omega arith) t′ a (ruler (pos 9)) (ruler (pos 3)) i f s in
-    (record { at = i; is = q; used = u; tile = e }, w)
+    (named t OCCUPIED i 9 3 A a (omega arith) (omega arith) q u e, w)
   where
     none : (x y : ℕ) → InArea (area (pos 9) (pos 3) (pos 12) (pos 4)) x y → Before x y (ruler (pos 9)) (ruler (pos 3)) → FreeCell t x y
     none x y h (higher b) = absurd (omega arith)
@@ -265,11 +276,24 @@ enumerated-row t d out out′ l a s =
 -- ---- edits
 
 -- an accepted create draws one solid more
-created-by : (t : List ℤ) (S : List Tile) (R : Area) (label : ℕ) (t′ : List ℤ) (a : Answer) → Draws t S → Created t R label t′ a
-    → Answers t′ DONE (drawn R label) a × Draws t′ (S ++ drawn R label ∷ [])
+created-by : (t : List ℤ) (S : List Tile) (R : Area) (label : ℕ) (t′ : List ℤ) (a : MetAnswer) → Draws t S → Created t R label t′ a
+    → AnswersAt t′ DONE (drawn R label) (pos 0) (pos 0) a × Draws t′ (S ++ drawn R label ∷ [])
 created-by t S R label t′ a d c =
     let w = c .done .adds in
-    (record { at = c .at; is = c .is; used = solid-used t′ (c .at) (w .new); tile = w .is }, draws-more t t′ S (c .at) (drawn R label) d (c .done .edited) w)
+    let e = c .is in (
+      record {
+        tile =
+            record {
+              at = c .at;
+              is = ap (λ a. record { number = a .number; value = a .value }) e;
+              used = solid-used t′ (c .at) (w .new);
+              tile = w .is;
+            };
+        column = ap (λ a. a .x) e;
+        row = ap (λ a. a .y) e;
+      },
+      draws-more t t′ S (c .at) (drawn R label) d (c .done .edited) w,
+    )
 
 created-gap : holds (Example.created ABC (area (pos 10) (pos 0) (pos 20) (pos 10)) 4 7)
 unfolding ruler gap-area
@@ -316,19 +340,19 @@ blank-draws = fresh-draws blank (fit .size)
     fit = record { size = omega arith; sound = fresh-sound-20 }
 
 -- a create on a table that draws nothing
-first-done : (t : List ℤ) (R : Area) (label : ℕ) → Draws t [] → RectRight R → ZERO < label → (t′ : List ℤ) (a : Answer) → CreateSays t R label t′ a → Created t R label t′ a
+first-done : (t : List ℤ) (R : Area) (label : ℕ) → Draws t [] → RectRight R → ZERO < label → (t′ : List ℤ) (a : MetAnswer) → CreateSays t R label t′ a → Created t R label t′ a
 unfolding blank
 first-done t R label d r l t′ a s =
     creates t (d .fit) R label r l t′ a (λ x y h. draws-free t [] x y d tt)
     (omega (arith, solids-by [] blank blank-draws t d 0 (fresh-no-solid 200 (omega arith) (omega arith)), d .fit .size .least)) s
 
 -- A on a fresh plane
-pub record AfterA (t t₁ : List ℤ) (a₁ : Answer) : Type 0 where
-  pub answers : Answers t₁ DONE A a₁
+pub record AfterA (t t₁ : List ℤ) (a₁ : MetAnswer) : Type 0 where
+  pub answers : AnswersAt t₁ DONE A (pos 0) (pos 0) a₁
   pub draws : Draws t₁ (A ∷ [])
   pub records : recordsOf t₁ ≡ recordsOf t
 
-pub after-A : (t t₀ t₁ : List ℤ) (a₀ a₁ : Answer) → SizeRight t → FreshSays t t₀ a₀ → CreateSays t₀ (areaOf A) (A .paint .label) t₁ a₁ → AfterA t t₁ a₁
+pub after-A : (t t₀ t₁ : List ℤ) (a₀ : Answer) (a₁ : MetAnswer) → SizeRight t → FreshSays t t₀ a₀ → CreateSays t₀ (areaOf A) (A .paint .label) t₁ a₁ → AfterA t t₁ a₁
 unfolding ruler
 after-A t t₀ t₁ a₀ a₁ z f s =
     let d = fresh-done t t₀ a₀ z f .1 in
@@ -337,14 +361,14 @@ after-A t t₀ t₁ a₀ a₁ z f s =
     record { answers = w; draws = e; records = ap (λ n. n / WIDTH) (c .done .edited .size ∙ fresh-size t t₀ a₀ f) }
 
 -- and B beside it, and C
-pub second-done : (t : List ℤ) → Draws t (A ∷ []) → 2 ≤ capacity (recordsOf t) → (t′ : List ℤ) (a : Answer) → CreateSays t (areaOf B) (B .paint .label) t′ a
+pub second-done : (t : List ℤ) → Draws t (A ∷ []) → 2 ≤ capacity (recordsOf t) → (t′ : List ℤ) (a : MetAnswer) → CreateSays t (areaOf B) (B .paint .label) t′ a
     → Created t (areaOf B) (B .paint .label) t′ a
 unfolding ruler
 second-done t d n t′ a s =
     creates t (d .fit) (areaOf B) (B .paint .label) (omega arith) (omega arith) t′ a (λ x y h. draws-free t (A ∷ []) x y d (λ k. omega arith, tt))
     (omega (arith, solids-by (A ∷ []) one one-draws t d 1 one-solids)) s
 
-third-done : (t : List ℤ) → Draws t (A ∷ B ∷ []) → 3 ≤ capacity (recordsOf t) → (t′ : List ℤ) (a : Answer) → CreateSays t (areaOf C) (C .paint .label) t′ a
+third-done : (t : List ℤ) → Draws t (A ∷ B ∷ []) → 3 ≤ capacity (recordsOf t) → (t′ : List ℤ) (a : MetAnswer) → CreateSays t (areaOf C) (C .paint .label) t′ a
     → Created t (areaOf C) (C .paint .label) t′ a
 unfolding ruler
 third-done t d n t′ a s =
@@ -353,7 +377,7 @@ third-done t d n t′ a s =
     (omega (arith, solids-by (A ∷ B ∷ []) ab ab-draws t d 2 ab-solids)) s
 
 -- A, B and C, created on a fresh plane that takes three, are what the examples start from
-pub start-abc : (t t₀ t₁ t₂ t₃ : List ℤ) (a₀ a₁ a₂ a₃ : Answer) → SizeRight t → 3 ≤ capacity (recordsOf t) → FreshSays t t₀ a₀
+pub start-abc : (t t₀ t₁ t₂ t₃ : List ℤ) (a₀ : Answer) (a₁ a₂ a₃ : MetAnswer) → SizeRight t → 3 ≤ capacity (recordsOf t) → FreshSays t t₀ a₀
     → CreateSays t₀ (areaOf A) (A .paint .label) t₁ a₁ → CreateSays t₁ (areaOf B) (B .paint .label) t₂ a₂ → CreateSays t₂ (areaOf C) (C .paint .label) t₃ a₃ → Draws t₃ ABC
 start-abc t t₀ t₁ t₂ t₃ a₀ a₁ a₂ a₃ z n f s₁ s₂ s₃ =
     let o = after-A t t₀ t₁ a₀ a₁ z f s₁ in
@@ -371,17 +395,17 @@ created-whole t d n t′ a s =
     (w, record { draws = e; spaces = spaces-by (W ∷ []) full full-draws t′ e 0 full-spaces })
 
 -- A in a table of 20 records
-module _ (t t′ : List ℤ) (d : Draws t (A ∷ [])) (l : recordsOf t ≡ 20) (a : Answer) where
-  second-full : CreateSays t (areaOf B) (B .paint .label) t′ a → (a ≡ refused FULL) × (t′ ≡ t)
+module _ (t t′ : List ℤ) (d : Draws t (A ∷ [])) (l : recordsOf t ≡ 20) where
+  second-full : (a : MetAnswer) → CreateSays t (areaOf B) (B .paint .label) t′ a → (a ≡ withoutCell (refused FULL)) × (t′ ≡ t)
   unfolding ruler
-  second-full s =
+  second-full a s =
       is-full t (d .fit) (areaOf B) (B .paint .label) (omega arith) (omega arith) t′ a
       (λ x y h. draws-free t (A ∷ []) x y d (λ k. omega arith, tt))
       (omega (arith, solids-by (A ∷ []) one one-draws t d 1 one-solids)) s
 
-  deleted-A : DeleteSays t (ruler (pos 0)) (ruler (pos 0)) t′ a → (a ≡ accepted 1) × Draws t′ []
+  deleted-A : (a : Answer) → DeleteSays t (ruler (pos 0)) (ruler (pos 0)) t′ a → (a ≡ accepted 1) × Draws t′ []
   unfolding one num ruler findsb
-  deleted-A s =
+  deleted-A a s =
       let (j, h, e) = held (A ∷ []) one one-draws t d (ruler (pos 0)) (ruler (pos 0)) 0 (findsb-finds one _ _ 0 tt) in
       let o : SolidIn t j = record { below = h .used .below; kind = ap (λ v. v .paint .kind) e } in
       let (q, w) = deletes t (d .fit) (ruler (pos 0)) (ruler (pos 0)) j h t′ a o s in

@@ -18,6 +18,7 @@ use Rattle.seek.specs.Meaning.{Area}
 use Rattle.layout.specs.Bytes.{savedAt, SAVED}
 use Rattle.ushanderi.specs.Answers.{DONE, SIZE, FILE}
 use Rattle.ushanderi.specs.declared.answer.Answer.{Answer}
+use Rattle.ushanderi.specs.declared.answer.MetAnswer.{MetAnswer}
 use Rattle.ushanderi.specs.declared.reports.DensityAnswer.{DensityAnswer}
 use Rattle.ushanderi.specs.Edits.{drawn}
 use Rattle.ushanderi.specs.Promises.{FreshSays, CheckSays, ViewSays, FindSays, NeighboursSays, SearchSays, EnumerateSays, DensitySays, CreateRefuses, CreateDone, DeleteRefuses, DeleteDone, SaveSays, areaIn, LoadStops, LoadSays}
@@ -63,24 +64,24 @@ filed bs (suc n) = filedAt bs n ∷ filed bs n
 -- ends well.
 pub data Begins (t t′ : List ℤ) : List Tile → Type 0 where
   fresh : {a : Answer} → FreshSays t t′ a → a .number ≡ pos DONE → Begins t t′ []
-  load : {bs : List ℕ} {a : Answer} → LoadSays t bs t′ a → a .number ≡ pos DONE → Begins t t′ (filed bs (length bs / SAVED))
-  load-refused : {bs : List ℕ} {a : Answer} → LoadSays t bs t′ a → LoadStops t bs a → Begins t t′ []
+  load : {bs : List ℕ} {a : MetAnswer} → LoadSays t bs t′ a → a .number ≡ pos DONE → Begins t t′ (filed bs (length bs / SAVED))
+  load-refused : {bs : List ℕ} {a : MetAnswer} → LoadSays t bs t′ a → LoadStops t bs a → Begins t t′ []
 
 -- One call: the table and the account before it and after it. That a call which only reads leaves the table is said here, since its promise names one
 -- table; and that a label is a word's number, since the promise speaks of any number. A refused create or delete leaves the table by its promise.
 pub data Step (t : List ℤ) (S : List Tile) : List ℤ → List Tile → Type 0 where
   begins : {t′ : List ℤ} {S′ : List Tile} → Begins t t′ S′ → Step t S t′ S′
   fresh-refused : {t′ : List ℤ} {a : Answer} → FreshSays t t′ a → a .number ≢ pos DONE → Step t S t′ S
-  load-unread : {bs : List ℕ} {t′ : List ℤ} {a : Answer} → LoadSays t bs t′ a → (a .number ≡ pos SIZE) ⊎ (a .number ≡ pos FILE) → Step t S t′ S
+  load-unread : {bs : List ℕ} {t′ : List ℤ} {a : MetAnswer} → LoadSays t bs t′ a → (a .number ≡ pos SIZE) ⊎ (a .number ≡ pos FILE) → Step t S t′ S
   create : {A : Area} {label : ℕ} {t′ : List ℤ} {k : ℕ} → label < 2 ^ 32 → CreateDone t A label t′ k → Step t S t′ (drawn A label ∷ S)
-  create-refused : {A : Area} {label : ℕ} {a : Answer} → CreateRefuses t A label a → Step t S t S
+  create-refused : {A : Area} {label : ℕ} {a : MetAnswer} → CreateRefuses t A label a → Step t S t S
   delete : {x y : ℕ} {t′ : List ℤ} {i : ℕ} → DeleteDone t x y t′ i → Step t S t′ (without x y S)
   delete-refused : {x y : ℕ} {a : Answer} → DeleteRefuses t x y a → Step t S t S
   check : {a : Answer} → CheckSays t a → Step t S t S
   view : {lent part : Slice} {index : ℤ} → now lent ≡ t → ViewSays lent index part → Step t S t S
   find : {x y : ℕ} {a : Answer} → FindSays t x y a → Step t S t S
   neighbours : {x y : ℕ} {side : ℤ} {out out′ : List ℤ} {a : Answer} → NeighboursSays t x y side out out′ a → Step t S t S
-  search : {A : Area} {a : Answer} → SearchSays t A a → Step t S t S
+  search : {A : Area} {a : MetAnswer} → SearchSays t A a → Step t S t S
   enumerate : {A : Area} {out out′ : List ℤ} {a : Answer} → EnumerateSays t A out out′ a → Step t S t S
   density : {A : Area} {w h : ℕ} {out out′ : List Float} {a : DensityAnswer} → DensitySays t A w h out out′ a → Step t S t S
   save : {out out′ : List ℕ} {a : Answer} → SaveSays t out out′ a → Step t S t S

@@ -19,9 +19,10 @@ use Rattle.table.specs.Forms.{sound-three}
 use Rattle.seek.specs.Meaning.{Area, RectRight, FreeArea}
 use Rattle.ushanderi.specs.Answers.{DONE, OCCUPIED, FULL, ROOM}
 use Rattle.ushanderi.specs.declared.answer.Answer.{Answer}
+use Rattle.ushanderi.specs.declared.answer.MetAnswer.{MetAnswer}
 use Rattle.ushanderi.specs.Edits.{NoRoom}
 use Rattle.ushanderi.specs.Promises.{Unfit, Fit, CreateRefuses, CreateSays, DeleteRefuses, DeleteSays}
-use Rattle.claims.specs.AgreeChecks.{not-fit, fit-forms, number-is, number-one, not-done}
+use Rattle.claims.specs.AgreeChecks.{not-fit, fit-forms, number-is, met-number, number-one, not-done}
 use Rattle.claims.specs.AgreePicture.{shows}
 use Rattle.claims.specs.History.{Among, History, Kept}
 use Rattle.claims.specs.HistoryKept.{history-kept}
@@ -38,7 +39,7 @@ pub record Overlaps (t : List ℤ) (A : Area) : Type 0 where
 abbrev pub IsFull : List ℤ → Type 0
 IsFull t = solidsIn t ≡ capacity (recordsOf t)
 
-pub record Exact (t : List ℤ) (A : Area) (a : Answer) : Type 0 where
+pub record Exact (t : List ℤ) (A : Area) (a : MetAnswer) : Type 0 where
   pub refused : (a .number ≢ pos DONE) ↔ (Overlaps t A ⊎ IsFull t)
   pub occupied : (a .number ≡ pos OCCUPIED) ↔ Overlaps t A
   pub full : (a .number ≡ pos FULL) ↔ ((Overlaps t A → ⊥) × IsFull t)
@@ -47,33 +48,33 @@ pub record Exact (t : List ℤ) (A : Area) (a : Answer) : Type 0 where
 free-apart : (t : List ℤ) (A : Area) → FreeArea t A → Overlaps t A → ⊥
 free-apart t A f o = f (o .shares .x) (o .shares .y) (o .shares .inside) (o .at) (o .solid) (o .shares .has)
 
-pub create-exact : (t : List ℤ) (A : Area) (label : ℕ) (t′ : List ℤ) (a : Answer) → Fit t → RectRight A → ZERO < label
+pub create-exact : (t : List ℤ) (A : Area) (label : ℕ) (t′ : List ℤ) (a : MetAnswer) → Fit t → RectRight A → ZERO < label
     → CreateSays t A label t′ a → Exact t A a
-create-exact t A label t′ a f r l (CreateSays.refuses (CreateRefuses.unfit n) w) = absurd (not-fit t a n f)
+create-exact t A label t′ a f r l (CreateSays.refuses (CreateRefuses.unfit b n e) w) = absurd (not-fit t b n f)
 create-exact t A label t′ a f r l (CreateSays.refuses (CreateRefuses.rect g n e) w) = absurd (n r)
 create-exact t A label t′ a f r l (CreateSays.refuses (CreateRefuses.label g s m e) w) = absurd (omega arith)
 create-exact t A label t′ a f r l (CreateSays.refuses (CreateRefuses.occupied g s m x y i h e) w) =
     let o : Overlaps t A = record { at = i; solid = h .solid; shares = record { x = x; y = y; inside = h .inside; has = h .has } } in
     record {
-      refused = (λ n. inl o, λ h. not-done e (λ e. omega arith));
-      occupied = (λ n. o, λ o. number-is e);
-      full = (λ n. absurd (omega (arith, number-one e n)), λ p. absurd (p .0 o));
-      which = λ n. inl (number-is e);
+      refused = (λ n. inl o, λ h. not-done (met-number e) (λ e. omega arith));
+      occupied = (λ n. o, λ o. met-number e);
+      full = (λ n. absurd (omega (arith, number-one (met-number e) n)), λ p. absurd (p .0 o));
+      which = λ n. inl (met-number e);
     }
 create-exact t A label t′ a f r l (CreateSays.refuses (CreateRefuses.full g s m h k e) w) =
     record {
-      refused = (λ n. inr k, λ h. not-done e (λ e. omega arith));
-      occupied = (λ n. absurd (omega (arith, number-one e n)), λ o. absurd (free-apart t A h o));
-      full = (λ n. (free-apart t A h, k), λ p. number-is e);
-      which = λ n. inr (number-is e);
+      refused = (λ n. inr k, λ h. not-done (met-number e) (λ e. omega arith));
+      occupied = (λ n. absurd (omega (arith, number-one (met-number e) n)), λ o. absurd (free-apart t A h o));
+      full = (λ n. (free-apart t A h, k), λ p. met-number e);
+      which = λ n. inr (met-number e);
     }
 create-exact t A label t′ a f r l (CreateSays.done i d e) =
     let b = d .allows in
     record {
-      refused = (λ n. absurd (n (number-is e)), λ o. absurd (⊎-elim (free-apart t A (b .free)) (λ q. omega (arith, b .few)) o));
-      occupied = (λ n. absurd (omega (arith, number-one e n)), λ o. absurd (free-apart t A (b .free) o));
-      full = (λ n. absurd (omega (arith, number-one e n)), λ p. absurd (omega (arith, b .few, p .1)));
-      which = λ n. absurd (n (number-is e));
+      refused = (λ n. absurd (n (met-number e)), λ o. absurd (⊎-elim (free-apart t A (b .free)) (λ q. omega (arith, b .few)) o));
+      occupied = (λ n. absurd (omega (arith, number-one (met-number e) n)), λ o. absurd (free-apart t A (b .free) o));
+      full = (λ n. absurd (omega (arith, number-one (met-number e) n)), λ p. absurd (omega (arith, b .few, p .1)));
+      which = λ n. absurd (n (met-number e));
     }
 
 -- ---- the same by the account
@@ -94,7 +95,7 @@ overlaps-covers t S A k o =
     record { tile = tileOf t (o .at); among = k .solids (tileOf t (o .at)) .1 (shows t (o .at) (o .solid)); shares = o .shares }
 
 -- over every history a create within the limits is refused exactly when a solid of the account shares a cell, or the account has N solids
-pub history-create-exact : (t : List ℤ) (S : List Tile) (A : Area) (label : ℕ) (t′ : List ℤ) (a : Answer) → History t S → RectRight A → ZERO < label
+pub history-create-exact : (t : List ℤ) (S : List Tile) (A : Area) (label : ℕ) (t′ : List ℤ) (a : MetAnswer) → History t S → RectRight A → ZERO < label
     → CreateSays t A label t′ a → (a .number ≢ pos DONE) ↔ (Covers S A ⊎ (length S ≡ capacity (recordsOf t)))
 history-create-exact t S A label t′ a h r l c =
     let k = history-kept h in
@@ -138,9 +139,9 @@ never-room t f n =
 
 -- so no delete answers ROOM
 pub delete-never-room : (t : List ℤ) (x y : ℕ) (t′ : List ℤ) (a : Answer) → DeleteSays t x y t′ a → a .number ≢ pos ROOM
-delete-never-room t x y t′ a (DeleteSays.refuses (DeleteRefuses.unfit (Unfit.size n e)) w) h = omega (arith, number-one e h)
-delete-never-room t x y t′ a (DeleteSays.refuses (DeleteRefuses.unfit (Unfit.unsound s n e)) w) h = omega (arith, number-one e h)
-delete-never-room t x y t′ a (DeleteSays.refuses (DeleteRefuses.point f n e) w) h = omega (arith, number-one e h)
-delete-never-room t x y t′ a (DeleteSays.refuses (DeleteRefuses.space f i m k e) w) h = omega (arith, number-one e h)
+delete-never-room t x y t′ a (DeleteSays.refuses (DeleteRefuses.unfit (Unfit.size n e)) w) h = omega (arith, number-one (number-is e) h)
+delete-never-room t x y t′ a (DeleteSays.refuses (DeleteRefuses.unfit (Unfit.unsound s n e)) w) h = omega (arith, number-one (number-is e) h)
+delete-never-room t x y t′ a (DeleteSays.refuses (DeleteRefuses.point f n e) w) h = omega (arith, number-one (number-is e) h)
+delete-never-room t x y t′ a (DeleteSays.refuses (DeleteRefuses.space f i m k e) w) h = omega (arith, number-one (number-is e) h)
 delete-never-room t x y t′ a (DeleteSays.refuses (DeleteRefuses.room f i m s n e) w) h = never-room t f n
-delete-never-room t x y t′ a (DeleteSays.done i d e) h = omega (arith, number-one e h)
+delete-never-room t x y t′ a (DeleteSays.done i d e) h = omega (arith, number-one (number-is e) h)

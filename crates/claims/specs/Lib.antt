@@ -29,5 +29,6 @@ pub mod ExamplesHold
 pub mod SavedFile
 pub mod RoundTrip
 pub mod Shams
+pub mod Blocked
 pub mod WrongAnswers
 pub mod Open

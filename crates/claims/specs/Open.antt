@@ -9,7 +9,7 @@ use Rattle.ruler.specs.Ruler.{ruler}
 use Rattle.table.specs.Words.{num}
 use Rattle.table.specs.Sound.{SolidIn}
 use Rattle.table.specs.FreshSound.{fresh-no-solid}
-use Rattle.ushanderi.specs.Answers.{accepted}
+use Rattle.ushanderi.specs.Answers.{accepted, withoutCell}
 use Rattle.ushanderi.specs.Edits.{Adds}
 use Rattle.ushanderi.specs.Promises.{CreateDone, CreateSays}
 use Rattle.claims.specs.AgreeChecks.{solid-used}
@@ -45,7 +45,8 @@ whole-done u k d s l = record {
 }
 
 -- the whole plane as one solid, drawn on a fresh plane: record 0 is allowed, and so is record 1
-pub new-record-open : CreateSays blank (areaOf W) (W .paint .label) full (accepted 0) × CreateSays blank (areaOf W) (W .paint .label) fullNext (accepted 1)
+pub new-record-open : CreateSays blank (areaOf W) (W .paint .label) full (withoutCell (accepted 0))
+    × CreateSays blank (areaOf W) (W .paint .label) fullNext (withoutCell (accepted 1))
 unfolding full fullNext num ruler
 new-record-open = (
   CreateSays.done 0 (whole-done full 0 full-draws (record { below = omega arith; kind = refl }) refl) refl,

@@ -14,8 +14,9 @@ use Rattle.table.specs.Sound.{SizeRight, capacity, solidsIn}
 use Rattle.layout.specs.OneOrder.{order-length}
 use Rattle.layout.specs.Order.{LabelsFit}
 use Rattle.layout.specs.Bytes.{SAVED}
-use Rattle.ushanderi.specs.Answers.{accepted}
+use Rattle.ushanderi.specs.Answers.{accepted, withoutCell}
 use Rattle.ushanderi.specs.declared.answer.Answer.{Answer}
+use Rattle.ushanderi.specs.declared.answer.MetAnswer.{MetAnswer}
 use Rattle.ushanderi.specs.Promises.{Fit, SaveSays, LoadSays}
 use Rattle.claims.specs.AgreePicture.{shows}
 use Rattle.claims.specs.History.{History}
@@ -40,13 +41,13 @@ pub record Between (t u : List ℤ) (out : List ℕ) : Type 0 where
   pub room : solidsIn t ≤ capacity (recordsOf u)
 
 -- the table u after a load of what was saved of t, and its answer
-pub record Restored (t u u′ : List ℤ) (b : Answer) : Type 0 where
-  pub is : b ≡ accepted (solidsIn t)
+pub record Restored (t u u′ : List ℤ) (b : MetAnswer) : Type 0 where
+  pub is : b ≡ withoutCell (accepted (solidsIn t))
   pub picture : SamePicture t u′
   pub fit : Fit u′
   pub size : length u′ ≡ length u
 
-pub round-trip : (t u u′ : List ℤ) (out out′ : List ℕ) (a b : Answer) → Between t u out → SaveSays t out out′ a
+pub round-trip : (t u u′ : List ℤ) (out out′ : List ℕ) (a : Answer) (b : MetAnswer) → Between t u out → SaveSays t out out′ a
     → LoadSays u (take (SAVED * solidsIn t) out′) u′ b → Restored t u u′ b
 round-trip t u u′ out out′ a b w s r =
     let v = saves t (w .fit) out out′ a (w .list) s .saves in
@@ -56,16 +57,16 @@ round-trip t u u′ out out′ a b w s r =
     (subst (λ bs. LoadSays u bs u′ b) (saved-bytes t out out′ (SAVED * solidsIn t) v) r) in
     let k = built-kept u (w .size) file (length file / SAVED) u′ d in
     record {
-      is = e ∙ ap accepted (saved-number t ks ∙ order-length t ks (v .lists));
+      is = e ∙ ap (λ n. withoutCell (accepted n)) (saved-number t ks ∙ order-length t ks (v .lists));
       picture = saved-picture t (w .fit) (w .labels) ks (v .lists) u′ k;
       fit = record { size = k .size; sound = k .sound };
       size = built-length u (w .size) file (length file / SAVED) u′ d;
     }
 
 -- what was loaded is saved as the bytes that it was loaded from
-pub saved-again : (t u u′ : List ℤ) (out o o′ : List ℕ) (a b c : Answer) → Between t u out → SaveSays t out o a
+pub saved-again : (t u u′ : List ℤ) (out o o′ : List ℕ) (a c : Answer) (b : MetAnswer) → Between t u out → SaveSays t out o a
     → LoadSays u (take (SAVED * solidsIn t) o) u′ b → SaveSays u′ out o′ c → (c ≡ a) × (o′ ≡ o)
-saved-again t u u′ out o o′ a b c w s r q =
+saved-again t u u′ out o o′ a c b w s r q =
     let k = round-trip t u u′ out o a b w s r in
     let (e, d) = save-by-picture t u′ (w .fit) (k .fit) (k .picture) out o o′ a c s q in
     (sym e, sym d)

@@ -22,11 +22,12 @@ use Rattle.seek.specs.Find.{Finds}
 use Rattle.seek.specs.Neighbours.{sideOf, Neighbours}
 use Rattle.density.specs.Meaning.{Steps, windowsOf}
 use Rattle.layout.specs.Bytes.{SAVED}
-use Rattle.ushanderi.specs.Answers.{DONE, SIZE, UNSOUND, RECT, SHORT, answered, accepted, nothing}
+use Rattle.ushanderi.specs.Answers.{DONE, SHORT, answered, accepted, nothing, withoutCell}
 use Rattle.ushanderi.specs.declared.answer.Answer.{Answer}
+use Rattle.ushanderi.specs.declared.answer.MetAnswer.{MetAnswer}
 use Rattle.ushanderi.specs.declared.reports.DensityAnswer.{DensityAnswer}
 use Rattle.ushanderi.specs.Promises.{Unfit, Fit, FreshSays, CheckSays, ViewSays, FindSays, listed, NeighboursSays, SearchSays, EnumerateSays, DensitySays, CreateAllows, CreateSays, DeleteSays, SaveSays, LoadSays}
-use Rattle.claims.specs.AgreeChecks.{fit-forms, not-fit, number-is}
+use Rattle.claims.specs.AgreeChecks.{fit-forms, not-fit, number-is, met-number}
 use Rattle.claims.specs.AgreeReads.{fresh-agrees, check-agrees, view-placed, enumerate-agrees}
 use Rattle.claims.specs.AgreeCreate.{create-done}
 use Rattle.claims.specs.AgreeDelete.{delete-done}
@@ -42,47 +43,44 @@ use Rattle.claims.specs.Terms.{Shows, Created, Clean}
 use Rattle.claims.specs.Drawing.{area, A, B, C, Draws, areaOf}
 
 -- any number but DONE
-abbrev pub Refuses : Answer → Type 0
-Refuses a = a .number ≢ pos DONE
+abbrev pub Refuses : ℤ → Type 0
+Refuses number = number ≢ pos DONE
 
-abbrev pub RefusesReport : DensityAnswer → Type 0
-RefusesReport a = a .number ≢ pos DONE
-
-accepts : (a : Answer) (value : ℕ) → a ≡ accepted value → Refuses a → ⊥
+accepts : (a : Answer) (value : ℕ) → a ≡ accepted value → Refuses (a .number) → ⊥
 accepts a value e n = n (number-is e)
 
 -- ---- one that always refuses: where no check of 01 or 02 stops the call, no refusal is allowed
 
 pub record NoRefusal : Type 0 where
-  pub fresh : (t t′ : List ℤ) (a : Answer) → SizeRight t → FreshSays t t′ a → Refuses a → ⊥
-  pub check : (t : List ℤ) (a : Answer) → Fit t → CheckSays t a → Refuses a → ⊥
-  pub find : (t : List ℤ) (x y : ℕ) (a : Answer) → Fit t → InPlane x y → FindSays t x y a → Refuses a → ⊥
+  pub fresh : (t t′ : List ℤ) (a : Answer) → SizeRight t → FreshSays t t′ a → Refuses (a .number) → ⊥
+  pub check : (t : List ℤ) (a : Answer) → Fit t → CheckSays t a → Refuses (a .number) → ⊥
+  pub find : (t : List ℤ) (x y : ℕ) (a : Answer) → Fit t → InPlane x y → FindSays t x y a → Refuses (a .number) → ⊥
   -- the lent list is not shorter than needed
   pub neighbours : (t : List ℤ) (x y s : ℕ) (out out′ : List ℤ) (a : Answer) → Fit t → InPlane x y → s < 4
       → ((i : ℕ) (ks : List ℕ) → Finds t x y i → Neighbours t (sideOf s) i ks → length ks ≤ length out)
-      → NeighboursSays t x y (pos s) out out′ a → Refuses a → ⊥
-  pub search : (t : List ℤ) (R : Area) (a : Answer) → Fit t → RectRight R → SearchSays t R a → Refuses a → ⊥
+      → NeighboursSays t x y (pos s) out out′ a → Refuses (a .number) → ⊥
+  pub search : (t : List ℤ) (R : Area) (a : MetAnswer) → Fit t → RectRight R → SearchSays t R a → Refuses (a .number) → ⊥
   pub enumerate : (t : List ℤ) (R : Area) (out out′ : List ℤ) (a : Answer) → Fit t → RectRight R
-      → ((ks : List ℕ) → Directed t R ks → length ks ≤ length out) → EnumerateSays t R out out′ a → Refuses a → ⊥
+      → ((ks : List ℕ) → Directed t R ks → length ks ≤ length out) → EnumerateSays t R out out′ a → Refuses (a .number) → ⊥
   pub density : (t : List ℤ) (R : Area) (w h : ℕ) (out out′ : List Float) (a : DensityAnswer) → Fit t → RectRight R → Steps R w h
-      → windowsOf R w h ≤ length out → DensitySays t R w h out out′ a → RefusesReport a → ⊥
-  pub create : (t : List ℤ) (R : Area) (label : ℕ) (t′ : List ℤ) (a : Answer) → CreateAllows t R label → CreateSays t R label t′ a → Refuses a → ⊥
-  pub delete : (t : List ℤ) (x y i : ℕ) (t′ : List ℤ) (a : Answer) → Fit t → Finds t x y i → SolidIn t i → DeleteSays t x y t′ a → Refuses a → ⊥
-  pub save : (t : List ℤ) (out out′ : List ℕ) (a : Answer) → Fit t → SAVED * solidsIn t ≤ length out → SaveSays t out out′ a → Refuses a → ⊥
-  pub load : (t t′ : List ℤ) (bs : List ℕ) (a : Answer) → SizeRight t → Clean bs (capacity (recordsOf t)) → LoadSays t bs t′ a → Refuses a → ⊥
+      → windowsOf R w h ≤ length out → DensitySays t R w h out out′ a → Refuses (a .number) → ⊥
+  pub create : (t : List ℤ) (R : Area) (label : ℕ) (t′ : List ℤ) (a : MetAnswer) → CreateAllows t R label → CreateSays t R label t′ a → Refuses (a .number) → ⊥
+  pub delete : (t : List ℤ) (x y i : ℕ) (t′ : List ℤ) (a : Answer) → Fit t → Finds t x y i → SolidIn t i → DeleteSays t x y t′ a → Refuses (a .number) → ⊥
+  pub save : (t : List ℤ) (out out′ : List ℕ) (a : Answer) → Fit t → SAVED * solidsIn t ≤ length out → SaveSays t out out′ a → Refuses (a .number) → ⊥
+  pub load : (t t′ : List ℤ) (bs : List ℕ) (a : MetAnswer) → SizeRight t → Clean bs (capacity (recordsOf t)) → LoadSays t bs t′ a → Refuses (a .number) → ⊥
 
-no-refused-fresh : (t t′ : List ℤ) (a : Answer) → SizeRight t → FreshSays t t′ a → Refuses a → ⊥
+no-refused-fresh : (t t′ : List ℤ) (a : Answer) → SizeRight t → FreshSays t t′ a → Refuses (a .number) → ⊥
 no-refused-fresh t t′ a s (FreshSays.size n e w) r = n s
 no-refused-fresh t t′ a s (FreshSays.done z e w) r = accepts a 0 e r
 
-no-refused-find : (t : List ℤ) (x y : ℕ) (a : Answer) → Fit t → InPlane x y → FindSays t x y a → Refuses a → ⊥
+no-refused-find : (t : List ℤ) (x y : ℕ) (a : Answer) → Fit t → InPlane x y → FindSays t x y a → Refuses (a .number) → ⊥
 no-refused-find t x y a f p s r =
     let h = one-holder (recordsOf t) (tileOf t) (fit-forms t f .widest) x y p in
     accepts a (h .number) (find-is t f x y (h .number) a (record { used = h .used; has = h .has }) s) r
 
 no-refused-neighbours : (t : List ℤ) (x y s : ℕ) (out out′ : List ℤ) (a : Answer) → Fit t → InPlane x y → s < 4
     → ((i : ℕ) (ks : List ℕ) → Finds t x y i → Neighbours t (sideOf s) i ks → length ks ≤ length out)
-    → NeighboursSays t x y (pos s) out out′ a → Refuses a → ⊥
+    → NeighboursSays t x y (pos s) out out′ a → Refuses (a .number) → ⊥
 no-refused-neighbours t x y s out out′ a f p b l (NeighboursSays.unfit u w) r = not-fit t a u f
 no-refused-neighbours t x y s out out′ a f p b l (NeighboursSays.point g n e w) r = n p
 no-refused-neighbours t x y s out out′ a f p b l (NeighboursSays.side g q n e w) r = n s (record { is = refl; below = b })
@@ -92,30 +90,30 @@ no-refused-neighbours t x y s out out′ a f p b l (NeighboursSays.short g c i k
     omega (arith, l i ks h (subst (λ s. Neighbours t (sideOf s) i ks) q m))
 no-refused-neighbours t x y s out out′ a f p b l (NeighboursSays.done g c i ks d h m o e w) r = accepts a (length ks) e r
 
-no-refused-search : (t : List ℤ) (R : Area) (a : Answer) → Fit t → RectRight R → SearchSays t R a → Refuses a → ⊥
-no-refused-search t R a f q (SearchSays.unfit u) r = not-fit t a u f
+no-refused-search : (t : List ℤ) (R : Area) (a : MetAnswer) → Fit t → RectRight R → SearchSays t R a → Refuses (a .number) → ⊥
+no-refused-search t R a f q (SearchSays.unfit b u e) r = not-fit t b u f
 no-refused-search t R a f q (SearchSays.rect g n e) r = n q
-no-refused-search t R a f q (SearchSays.free g p h e) r = r (ap (λ a. a .number) e)
-no-refused-search t R a f q (SearchSays.met g p x y i h e) r = accepts a i e r
+no-refused-search t R a f q (SearchSays.free g p h e) r = r (met-number e)
+no-refused-search t R a f q (SearchSays.met g p x y i h e) r = r (met-number e)
 
 no-refused-enumerate : (t : List ℤ) (R : Area) (out out′ : List ℤ) (a : Answer) → Fit t → RectRight R
-    → ((ks : List ℕ) → Directed t R ks → length ks ≤ length out) → EnumerateSays t R out out′ a → Refuses a → ⊥
+    → ((ks : List ℕ) → Directed t R ks → length ks ≤ length out) → EnumerateSays t R out out′ a → Refuses (a .number) → ⊥
 no-refused-enumerate t R out out′ a f q l (EnumerateSays.unfit u w) r = not-fit t a u f
 no-refused-enumerate t R out out′ a f q l (EnumerateSays.rect g n e w) r = n q
 no-refused-enumerate t R out out′ a f q l (EnumerateSays.short g p ks d h e w) r = omega (arith, l ks d)
 no-refused-enumerate t R out out′ a f q l (EnumerateSays.done g p ks d h e w) r = accepts a (length ks) e r
 
 no-refused-density : (t : List ℤ) (R : Area) (w h : ℕ) (out out′ : List Float) (a : DensityAnswer) → Fit t → RectRight R → Steps R w h
-    → windowsOf R w h ≤ length out → DensitySays t R w h out out′ a → RefusesReport a → ⊥
+    → windowsOf R w h ≤ length out → DensitySays t R w h out out′ a → Refuses (a .number) → ⊥
 no-refused-density t R w h out out′ a f q p l (DensitySays.unfit b u e z) r = not-fit t b u f
 no-refused-density t R w h out out′ a f q p l (DensitySays.rect g n e z) r = n q
 no-refused-density t R w h out out′ a f q p l (DensitySays.step g o n e z) r = n p
 no-refused-density t R w h out out′ a f q p l (DensitySays.short g o s k e z) r = omega arith
 no-refused-density t R w h out out′ a f q p l (DensitySays.done g o s k b m e) r = r (ap (λ a. a .number) e)
 
-no-refused-create : (t : List ℤ) (R : Area) (label : ℕ) (t′ : List ℤ) (a : Answer) → CreateAllows t R label → CreateSays t R label t′ a → Refuses a → ⊥
+no-refused-create : (t : List ℤ) (R : Area) (label : ℕ) (t′ : List ℤ) (a : MetAnswer) → CreateAllows t R label → CreateSays t R label t′ a → Refuses (a .number) → ⊥
 no-refused-create t R label t′ a g (CreateSays.refuses o w) r = never-refused g o
-no-refused-create t R label t′ a g (CreateSays.done k d e) r = accepts a k e r
+no-refused-create t R label t′ a g (CreateSays.done k d e) r = r (met-number e)
 
 pub no-refusal : NoRefusal
 no-refusal = record {
@@ -129,32 +127,31 @@ no-refusal = record {
   create = no-refused-create;
   delete = λ t x y i t′ a f h o s r. accepts a _ (deletes t f x y i h t′ a o s .0) r;
   save = λ t out out′ a f l s r. accepts a (SAVED * solidsIn t) (saves t f out out′ a l s .is) r;
-  load = λ t t′ bs a z c s r. accepts a (length bs / SAVED) (clean-loads t z bs c t′ a s .0) r;
+  load = λ t t′ bs a z c s r. r (met-number (clean-loads t z bs c t′ a s .0));
 }
 
 -- as with A, B and C at (9, 9)
-pub no-refusal-abc : (t : List ℤ) → Draws t ABC → (a : Answer) → FindSays t (ruler (pos 9)) (ruler (pos 9)) a → Refuses a → ⊥
+pub no-refusal-abc : (t : List ℤ) → Draws t ABC → (a : Answer) → FindSays t (ruler (pos 9)) (ruler (pos 9)) a → Refuses (a .number) → ⊥
 unfolding ruler
 no-refusal-abc t d a s r = no-refused-find t (ruler (pos 9)) (ruler (pos 9)) a (d .fit) (omega arith) s r
 
 -- ---- one that always answers "free"
 
-pub negative : (n value : ℕ) → nothing ≡ answered n value → ⊥
-negative n value e =
-    let z : negsuc 0 ≡ pos value = ap (λ a. a .value) e in
-    let o : _≡_ {A = ℕ} 0 1 = cc in
-    omega arith
+-- no count or record is -1
+pub negative : (value : ℕ) → negsuc 0 ≡ pos value → ⊥
+negative value e = let o : _≡_ {A = ℕ} 0 1 = cc in omega arith
 
 -- where a solid holds a cell of the rectangle, the answer is not "free"
-pub not-free : (t : List ℤ) (R : Area) (x y i : ℕ) → InArea R x y → SolidIn t i → Has (tileOf t i) x y → SearchSays t R nothing → ⊥
-not-free t R x y i h s p (SearchSays.unfit (Unfit.size n e)) = negative SIZE 0 e
-not-free t R x y i h s p (SearchSays.unfit (Unfit.unsound z n e)) = negative UNSOUND 0 e
-not-free t R x y i h s p (SearchSays.rect g n e) = negative RECT 0 e
-not-free t R x y i h s p (SearchSays.free g q o e) = o x y h i s p
-not-free t R x y i h s p (SearchSays.met g q x′ y′ j o e) = negative DONE j e
+pub not-free : (t : List ℤ) (R : Area) (x y i : ℕ) → InArea R x y → SolidIn t i → Has (tileOf t i) x y → (a : MetAnswer) → SearchSays t R a
+    → a .value ≡ negsuc 0 → ⊥
+not-free t R x y i h s p a (SearchSays.unfit b (Unfit.size n d) e) v = negative 0 (sym v ∙ ap (λ a. a .value) e ∙ ap (λ a. a .value) d)
+not-free t R x y i h s p a (SearchSays.unfit b (Unfit.unsound z n d) e) v = negative 0 (sym v ∙ ap (λ a. a .value) e ∙ ap (λ a. a .value) d)
+not-free t R x y i h s p a (SearchSays.rect g n e) v = negative 0 (sym v ∙ ap (λ a. a .value) e)
+not-free t R x y i h s p a (SearchSays.free g q o e) v = o x y h i s p
+not-free t R x y i h s p a (SearchSays.met g q x′ y′ j o e) v = negative j (sym v ∙ ap (λ a. a .value) e)
 
 -- as with A, B and C in 5 0 25 20, where C stands
-pub not-free-abc : (t : List ℤ) → Draws t ABC → SearchSays t (area (pos 5) (pos 0) (pos 25) (pos 20)) nothing → ⊥
+pub not-free-abc : (t : List ℤ) → Draws t ABC → (a : MetAnswer) → SearchSays t (area (pos 5) (pos 0) (pos 25) (pos 20)) a → a .value ≡ negsuc 0 → ⊥
 unfolding ruler
 not-free-abc t d =
     let s = d .all C (List·Memᴰ·tail (List·Memᴰ·tail (List·Memᴰ·head refl))) in
@@ -163,7 +160,7 @@ not-free-abc t d =
     (subst (λ v. Has v (ruler (pos 5)) (ruler (pos 15))) (sym (s .is)) h)
 
 -- and where no solid does, it is nothing else: so one that never answers "free" is shut out too
-pub but-free : (t : List ℤ) (R : Area) (a : Answer) → Fit t → RectRight R → FreeArea t R → SearchSays t R a → a ≢ nothing → ⊥
+pub but-free : (t : List ℤ) (R : Area) (a : MetAnswer) → Fit t → RectRight R → FreeArea t R → SearchSays t R a → a ≢ withoutCell nothing → ⊥
 but-free t R a f r h s n = n (search-free t f R a r h s)
 
 -- ---- one whose create, delete, fresh or load writes nothing
@@ -171,7 +168,7 @@ but-free t R a f r h s n = n (search-free t f R a r h s)
 fresh-shows : (t : List ℤ) → SizeRight t → (v : Tile) → Shows (freshTable (length t)) v → ⊥
 fresh-shows t z v s = List·Memᴰ·not-nil (fresh-draws t z .each (s .at) (s .solid))
 
-pub create-writes : (t : List ℤ) (R : Area) (label : ℕ) (t′ : List ℤ) (a : Answer) → CreateSays t R label t′ a → a .number ≡ pos DONE → t′ ≡ t → ⊥
+pub create-writes : (t : List ℤ) (R : Area) (label : ℕ) (t′ : List ℤ) (a : MetAnswer) → CreateSays t R label t′ a → a .number ≡ pos DONE → t′ ≡ t → ⊥
 create-writes t R label t′ a c e w =
     let d = create-done c e in
     d .done .adds .was-none (subst (λ t. SolidIn t (d .at)) w (d .done .adds .new))
@@ -187,7 +184,7 @@ fresh-writes t t′ v a z s (FreshSays.size n e w) q = n z
 fresh-writes t t′ v a z s (FreshSays.done y e w) q = fresh-shows t z v (subst (λ t. Shows t v) (sym q ∙ w) s)
 
 -- load of whole records, where the table has a solid that the file has not
-pub load-writes : (t t′ : List ℤ) (bs : List ℕ) (v : Tile) (a : Answer) → SizeRight t → length bs % SAVED ≡ 0 → Shows t v
+pub load-writes : (t t′ : List ℤ) (bs : List ℕ) (v : Tile) (a : MetAnswer) → SizeRight t → length bs % SAVED ≡ 0 → Shows t v
     → (Among (filed bs (length bs / SAVED)) v → ⊥) → LoadSays t bs t′ a → t′ ≡ t → ⊥
 load-writes t t′ bs v a z d s m (LoadSays.size n e w) q = n z
 load-writes t t′ bs v a z d s m (LoadSays.file y n e w) q = n d
@@ -196,17 +193,17 @@ load-writes t t′ bs v a z d s m (LoadSays.done y r b e) q =
     m (built-kept t z bs (length bs / SAVED) t′ b .solids v .1 (subst (λ t. Shows t v) (sym q) s))
 
 -- load that ends well, where the file has a solid that the table has not
-pub load-draws : (t t′ : List ℤ) (bs : List ℕ) (v : Tile) (a : Answer) → LoadSays t bs t′ a → a .number ≡ pos DONE
+pub load-draws : (t t′ : List ℤ) (bs : List ℕ) (v : Tile) (a : MetAnswer) → LoadSays t bs t′ a → a .number ≡ pos DONE
     → Among (filed bs (length bs / SAVED)) v → (Shows t v → ⊥) → t′ ≡ t → ⊥
 load-draws t t′ bs v a s e i n q = n (subst (λ t. Shows t v) q (history-kept (History.start (Begins.load s e)) .solids v .0 i))
 
 -- ---- one whose second and later calls write nothing
 
-created-writes : (t : List ℤ) (R : Area) (label : ℕ) (t′ : List ℤ) (a : Answer) → CreateSays t R label t′ a → Created t R label t′ a → t′ ≡ t → ⊥
-created-writes t R label t′ a s c w = create-writes t R label t′ a s (number-is (c .is)) w
+created-writes : (t : List ℤ) (R : Area) (label : ℕ) (t′ : List ℤ) (a : MetAnswer) → CreateSays t R label t′ a → Created t R label t′ a → t′ ≡ t → ⊥
+created-writes t R label t′ a s c w = create-writes t R label t′ a s (met-number (c .is)) w
 
 -- A and then B on a fresh plane that takes both: whatever the second call answers, it has written
-pub second-writes : (t t₀ t₁ t₂ : List ℤ) (a₀ a₁ a₂ : Answer) → SizeRight t → 2 ≤ capacity (recordsOf t) → FreshSays t t₀ a₀
+pub second-writes : (t t₀ t₁ t₂ : List ℤ) (a₀ : Answer) (a₁ a₂ : MetAnswer) → SizeRight t → 2 ≤ capacity (recordsOf t) → FreshSays t t₀ a₀
     → CreateSays t₀ (areaOf A) (A .paint .label) t₁ a₁ → CreateSays t₁ (areaOf B) (B .paint .label) t₂ a₂ → t₂ ≡ t₁ → ⊥
 second-writes t t₀ t₁ t₂ a₀ a₁ a₂ z n f s₁ s₂ w =
     let o = after-A t t₀ t₁ a₀ a₁ z f s₁ in
@@ -214,25 +211,25 @@ second-writes t t₀ t₁ t₂ a₀ a₁ a₂ z n f s₁ s₂ w =
     created-writes t₁ (areaOf B) (B .paint .label) t₂ a₂ s₂ (second-done t₁ (o .draws) (omega arith) t₂ a₂ s₂) w
 
 -- A and then fresh once more
-pub second-fresh-writes : (t t₀ t₁ t₂ : List ℤ) (a₀ a₁ a₂ : Answer) → SizeRight t → FreshSays t t₀ a₀
+pub second-fresh-writes : (t t₀ t₁ t₂ : List ℤ) (a₀ a₂ : Answer) (a₁ : MetAnswer) → SizeRight t → FreshSays t t₀ a₀
     → CreateSays t₀ (areaOf A) (A .paint .label) t₁ a₁ → FreshSays t₁ t₂ a₂ → t₂ ≡ t₁ → ⊥
-second-fresh-writes t t₀ t₁ t₂ a₀ a₁ a₂ z f s₁ s₂ w =
+second-fresh-writes t t₀ t₁ t₂ a₀ a₂ a₁ z f s₁ s₂ w =
     let d = after-A t t₀ t₁ a₀ a₁ z f s₁ .draws in
     fresh-writes t₁ t₂ A a₂ (d .fit .size) (d .all A (List·Memᴰ·head refl)) s₂ w
 
 -- fresh and then a load that no check refuses, of one record or more
-pub second-load-writes : (t t₀ t₁ : List ℤ) (bs : List ℕ) (a₀ a₁ : Answer) → SizeRight t → FreshSays t t₀ a₀ → Clean bs (capacity (recordsOf t))
+pub second-load-writes : (t t₀ t₁ : List ℤ) (bs : List ℕ) (a₀ : Answer) (a₁ : MetAnswer) → SizeRight t → FreshSays t t₀ a₀ → Clean bs (capacity (recordsOf t))
     → 0 < length bs / SAVED → LoadSays t₀ bs t₁ a₁ → t₁ ≡ t₀ → ⊥
 second-load-writes t t₀ t₁ bs a₀ a₁ z f c h s w =
     let e = fresh-agrees t t₀ (freshTable (length t)) a₀ (accepted 0) f (FreshSays.done z refl refl) .1 in
     let l : length t₀ ≡ length t = ap length e ∙ fresh-length (length t) (omega (arith, z .least)) in
     let y : SizeRight t₀ = omega (arith, z) in
     let d = clean-loads t₀ y bs (subst (λ n. Clean bs (capacity (n / WIDTH))) (sym l) c) t₁ a₁ s .0 in
-    load-draws t₀ t₁ bs (filedAt bs 0) a₁ s (number-is d) (filed-among bs (length bs / SAVED) 0 h)
+    load-draws t₀ t₁ bs (filedAt bs 0) a₁ s (met-number d) (filed-among bs (length bs / SAVED) 0 h)
     (λ o. fresh-shows t z (filedAt bs 0) (subst (λ t. Shows t (filedAt bs 0)) e o)) w
 
 -- a load that ends well and then another, of whole records, whose file lacks one of the solids
-pub load-after-load-writes : (t t₁ t₂ : List ℤ) (bs cs : List ℕ) (v : Tile) (a₁ a₂ : Answer) → LoadSays t bs t₁ a₁ → a₁ .number ≡ pos DONE
+pub load-after-load-writes : (t t₁ t₂ : List ℤ) (bs cs : List ℕ) (v : Tile) (a₁ a₂ : MetAnswer) → LoadSays t bs t₁ a₁ → a₁ .number ≡ pos DONE
     → Among (filed bs (length bs / SAVED)) v → length cs % SAVED ≡ 0 → (Among (filed cs (length cs / SAVED)) v → ⊥) → LoadSays t₁ cs t₂ a₂ → t₂ ≡ t₁ → ⊥
 load-after-load-writes t t₁ t₂ bs cs v a₁ a₂ s₁ e i d m s₂ w =
     let k = history-kept (History.start (Begins.load s₁ e)) in

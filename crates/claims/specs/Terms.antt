@@ -18,9 +18,10 @@ use Rattle.density.specs.Report.{Reports}
 use Rattle.density.specs.declared.windows.Report.{Report}
 use Rattle.layout.specs.Bytes.{savedAt, SAVED}
 use Rattle.ushanderi.specs.declared.answer.Answer.{Answer}
+use Rattle.ushanderi.specs.declared.answer.MetAnswer.{MetAnswer}
 use Rattle.ushanderi.specs.declared.reports.DensityAnswer.{DensityAnswer}
 use Rattle.ushanderi.specs.Promises.{CreateDone, areaIn, Built, CreateRefuses}
-use Rattle.ushanderi.specs.Answers.{DONE, accepted, answered, reported}
+use Rattle.ushanderi.specs.Answers.{DONE, accepted, withoutCell, reported}
 
 -- some record of t is the solid w
 pub record Shows (t : List ℤ) (w : Tile) : Type 0 where
@@ -86,16 +87,21 @@ pub record CreatedAgree (t u v : List ℤ) : Type 0 where
   pub kept : Keeps t u
   pub kept-too : Keeps t v
 
-pub record CreateAgrees (t u v : List ℤ) (a b : Answer) : Type 0 where
+-- two answers name one cell
+abbrev pub OneCell : MetAnswer → MetAnswer → Type 0
+OneCell a b = (a .x ≡ b .x) × (a .y ≡ b .y)
+
+pub record CreateAgrees (t u v : List ℤ) (a b : MetAnswer) : Type 0 where
   pub number : a .number ≡ b .number
+  pub cell : OneCell a b
   pub refused : a .number ≢ pos DONE → (a ≡ b) × (u ≡ v)
   pub done : a .number ≡ pos DONE → CreatedAgree t u v
 
 -- an accepted create and its answer
-pub record Created (t : List ℤ) (A : Area) (label : ℕ) (t′ : List ℤ) (a : Answer) : Type 0 where
+pub record Created (t : List ℤ) (A : Area) (label : ℕ) (t′ : List ℤ) (a : MetAnswer) : Type 0 where
   pub at : ℕ
   pub done : CreateDone t A label t′ at
-  pub is : a ≡ accepted at
+  pub is : a ≡ withoutCell (accepted at)
 
 -- an accepted density report and its answer
 pub record Given (t : List ℤ) (A : Area) (w h : ℕ) (out out′ : List Float) (a : DensityAnswer) : Type 0 where
@@ -119,7 +125,7 @@ pub record DeleteAgrees (u v : List ℤ) (a b : Answer) : Type 0 where
   pub refused : a .number ≢ pos DONE → u ≡ v
   pub done : a .number ≡ pos DONE → DeletedAgree u v
 
-pub record LoadAgrees (u v : List ℤ) (a b : Answer) : Type 0 where
+pub record LoadAgrees (u v : List ℤ) (a b : MetAnswer) : Type 0 where
   pub answer : a ≡ b
   pub refused : a .number ≢ pos DONE → u ≡ v
   pub done : a .number ≡ pos DONE → Renumbered u v
@@ -143,5 +149,6 @@ pub record Shares (v : Tile) (A : Area) : Type 0 where
 pub record Stop (t : List ℤ) (bs : List ℕ) (n number : ℕ) : Type 0 where
   pub before : List ℤ
   pub built : Built (length t) bs n before
-  pub value : ℕ
-  pub refuses : CreateRefuses before (areaIn bs n) (savedAt bs n .label) (answered number value)
+  pub refusal : MetAnswer
+  pub refuses : CreateRefuses before (areaIn bs n) (savedAt bs n .label) refusal
+  pub is : refusal .number ≡ pos number

@@ -34,19 +34,20 @@ use Rattle.layout.specs.Order.{savedOf}
 use Rattle.layout.specs.Bytes.{fileBytes, SAVED}
 use Rattle.layout.specs.BytesLaws.{file-length}
 use Rattle.layout.specs.OneOrder.{saves-bytes}
-use Rattle.ushanderi.specs.Answers.{DONE, POINT, RECT, LABEL, FULL, SHORT, STEP, answered, accepted, refused, reported, unreported}
+use Rattle.ushanderi.specs.Answers.{DONE, POINT, RECT, LABEL, FULL, SHORT, STEP, answered, accepted, refused, withoutCell, reported, unreported}
 use Rattle.ushanderi.specs.declared.answer.Answer.{Answer}
+use Rattle.ushanderi.specs.declared.answer.MetAnswer.{MetAnswer}
 use Rattle.ushanderi.specs.declared.reports.DensityAnswer.{DensityAnswer}
 use Rattle.ushanderi.specs.Edits.{labelIn}
 use Rattle.ushanderi.specs.Promises.{Unfit, Fit, FreshSays, CheckSays, ViewSays, FindSays, listed, NeighboursSays, SearchSays, EnumerateSays, DensitySays, CreateRefuses, CreateSays, DeleteSays, SaveSays, LoadStops, LoadSays}
-use Rattle.claims.specs.AgreeChecks.{fit-forms, number-is, number-one, not-done, unfit-not-done}
+use Rattle.claims.specs.AgreeChecks.{fit-forms, number-is, met-number, number-one, not-done, unfit-not-done}
 use Rattle.claims.specs.AgreeReads.{neighbours-agrees}
-use Rattle.claims.specs.AgreeReports.{density-agrees, refusal-number, density-done}
+use Rattle.claims.specs.AgreeReports.{density-agrees, report-number, density-done}
 use Rattle.claims.specs.AgreeCreate.{edited-fit, create-done, create-agrees}
 use Rattle.claims.specs.AgreeDelete.{delete-done}
 use Rattle.claims.specs.Allowed.{deletes}
 use Rattle.claims.specs.Density.{entry, entry-share}
-use Rattle.claims.specs.Shams.{Refuses, RefusesReport, negative}
+use Rattle.claims.specs.Shams.{Refuses, negative}
 use Rattle.claims.specs.Terms.{Keeps, Shares, Stop}
 
 same-value : {m n i j : ℕ} → answered m i ≡ answered n j → i ≡ j
@@ -55,56 +56,56 @@ same-value {i = i} {j = j} e = let z : pos i ≡ pos j = ap (λ a. a .value) e i
 -- ---- a refusal that writes: SHORT that writes what fits, OCCUPIED or FULL that writes, a fresh plane before FILE
 
 pub record Unwritten : Type 0 where
-  pub fresh : (t t′ : List ℤ) (a : Answer) → FreshSays t t′ a → Refuses a → t′ ≡ t
-  pub neighbours : (t : List ℤ) (x y : ℕ) (side : ℤ) (out out′ : List ℤ) (a : Answer) → NeighboursSays t x y side out out′ a → Refuses a → out′ ≡ out
-  pub enumerate : (t : List ℤ) (R : Area) (out out′ : List ℤ) (a : Answer) → EnumerateSays t R out out′ a → Refuses a → out′ ≡ out
-  pub density : (t : List ℤ) (R : Area) (w h : ℕ) (out out′ : List Float) (a : DensityAnswer) → DensitySays t R w h out out′ a → RefusesReport a → out′ ≡ out
-  pub create : (t : List ℤ) (R : Area) (label : ℕ) (t′ : List ℤ) (a : Answer) → CreateSays t R label t′ a → Refuses a → t′ ≡ t
-  pub delete : (t : List ℤ) (x y : ℕ) (t′ : List ℤ) (a : Answer) → DeleteSays t x y t′ a → Refuses a → t′ ≡ t
-  pub save : (t : List ℤ) (out out′ : List ℕ) (a : Answer) → SaveSays t out out′ a → Refuses a → out′ ≡ out
-  pub load : (t : List ℤ) (bs : List ℕ) (t′ : List ℤ) (a : Answer) → LoadSays t bs t′ a → length bs % SAVED ≢ 0 → t′ ≡ t
+  pub fresh : (t t′ : List ℤ) (a : Answer) → FreshSays t t′ a → Refuses (a .number) → t′ ≡ t
+  pub neighbours : (t : List ℤ) (x y : ℕ) (side : ℤ) (out out′ : List ℤ) (a : Answer) → NeighboursSays t x y side out out′ a → Refuses (a .number) → out′ ≡ out
+  pub enumerate : (t : List ℤ) (R : Area) (out out′ : List ℤ) (a : Answer) → EnumerateSays t R out out′ a → Refuses (a .number) → out′ ≡ out
+  pub density : (t : List ℤ) (R : Area) (w h : ℕ) (out out′ : List Float) (a : DensityAnswer) → DensitySays t R w h out out′ a → Refuses (a .number) → out′ ≡ out
+  pub create : (t : List ℤ) (R : Area) (label : ℕ) (t′ : List ℤ) (a : MetAnswer) → CreateSays t R label t′ a → Refuses (a .number) → t′ ≡ t
+  pub delete : (t : List ℤ) (x y : ℕ) (t′ : List ℤ) (a : Answer) → DeleteSays t x y t′ a → Refuses (a .number) → t′ ≡ t
+  pub save : (t : List ℤ) (out out′ : List ℕ) (a : Answer) → SaveSays t out out′ a → Refuses (a .number) → out′ ≡ out
+  pub load : (t : List ℤ) (bs : List ℕ) (t′ : List ℤ) (a : MetAnswer) → LoadSays t bs t′ a → length bs % SAVED ≢ 0 → t′ ≡ t
 
-fresh-kept : (t t′ : List ℤ) (a : Answer) → FreshSays t t′ a → Refuses a → t′ ≡ t
+fresh-kept : (t t′ : List ℤ) (a : Answer) → FreshSays t t′ a → Refuses (a .number) → t′ ≡ t
 fresh-kept t t′ a (FreshSays.size n e w) r = w
 fresh-kept t t′ a (FreshSays.done z e w) r = absurd (r (number-is e))
 
-neighbours-kept : (t : List ℤ) (x y : ℕ) (side : ℤ) (out out′ : List ℤ) (a : Answer) → NeighboursSays t x y side out out′ a → Refuses a → out′ ≡ out
+neighbours-kept : (t : List ℤ) (x y : ℕ) (side : ℤ) (out out′ : List ℤ) (a : Answer) → NeighboursSays t x y side out out′ a → Refuses (a .number) → out′ ≡ out
 neighbours-kept t x y side out out′ a (NeighboursSays.unfit u w) r = w
 neighbours-kept t x y side out out′ a (NeighboursSays.point f n e w) r = w
 neighbours-kept t x y side out out′ a (NeighboursSays.side f p n e w) r = w
 neighbours-kept t x y side out out′ a (NeighboursSays.short f s i ks c h l o e w) r = w
 neighbours-kept t x y side out out′ a (NeighboursSays.done f s i ks c h l o e w) r = absurd (r (number-is e))
 
-enumerate-kept : (t : List ℤ) (R : Area) (out out′ : List ℤ) (a : Answer) → EnumerateSays t R out out′ a → Refuses a → out′ ≡ out
+enumerate-kept : (t : List ℤ) (R : Area) (out out′ : List ℤ) (a : Answer) → EnumerateSays t R out out′ a → Refuses (a .number) → out′ ≡ out
 enumerate-kept t R out out′ a (EnumerateSays.unfit u w) r = w
 enumerate-kept t R out out′ a (EnumerateSays.rect f n e w) r = w
 enumerate-kept t R out out′ a (EnumerateSays.short f p ks d o e w) r = w
 enumerate-kept t R out out′ a (EnumerateSays.done f p ks d o e w) r = absurd (r (number-is e))
 
-density-kept : (t : List ℤ) (R : Area) (w h : ℕ) (out out′ : List Float) (a : DensityAnswer) → DensitySays t R w h out out′ a → RefusesReport a → out′ ≡ out
+density-kept : (t : List ℤ) (R : Area) (w h : ℕ) (out out′ : List Float) (a : DensityAnswer) → DensitySays t R w h out out′ a → Refuses (a .number) → out′ ≡ out
 density-kept t R w h out out′ a (DensitySays.unfit b u e z) r = z
 density-kept t R w h out out′ a (DensitySays.rect f n e z) r = z
 density-kept t R w h out out′ a (DensitySays.step f p n e z) r = z
 density-kept t R w h out out′ a (DensitySays.short f p s o e z) r = z
 density-kept t R w h out out′ a (DensitySays.done f p s o g m e) r = absurd (r (ap (λ a. a .number) e))
 
-create-kept : (t : List ℤ) (R : Area) (label : ℕ) (t′ : List ℤ) (a : Answer) → CreateSays t R label t′ a → Refuses a → t′ ≡ t
+create-kept : (t : List ℤ) (R : Area) (label : ℕ) (t′ : List ℤ) (a : MetAnswer) → CreateSays t R label t′ a → Refuses (a .number) → t′ ≡ t
 create-kept t R label t′ a (CreateSays.refuses o w) r = w
-create-kept t R label t′ a (CreateSays.done k d e) r = absurd (r (number-is e))
+create-kept t R label t′ a (CreateSays.done k d e) r = absurd (r (met-number e))
 
-delete-kept : (t : List ℤ) (x y : ℕ) (t′ : List ℤ) (a : Answer) → DeleteSays t x y t′ a → Refuses a → t′ ≡ t
+delete-kept : (t : List ℤ) (x y : ℕ) (t′ : List ℤ) (a : Answer) → DeleteSays t x y t′ a → Refuses (a .number) → t′ ≡ t
 delete-kept t x y t′ a (DeleteSays.refuses o w) r = w
 delete-kept t x y t′ a (DeleteSays.done i d e) r = absurd (r (number-is e))
 
-save-kept : (t : List ℤ) (out out′ : List ℕ) (a : Answer) → SaveSays t out out′ a → Refuses a → out′ ≡ out
+save-kept : (t : List ℤ) (out out′ : List ℕ) (a : Answer) → SaveSays t out out′ a → Refuses (a .number) → out′ ≡ out
 save-kept t out out′ a (SaveSays.unfit u w) r = w
 save-kept t out out′ a (SaveSays.short f ks l o e w) r = w
 save-kept t out out′ a (SaveSays.done f n s o e) r = absurd (r (number-is e))
 
-load-kept : (t : List ℤ) (bs : List ℕ) (t′ : List ℤ) (a : Answer) → LoadSays t bs t′ a → length bs % SAVED ≢ 0 → t′ ≡ t
+load-kept : (t : List ℤ) (bs : List ℕ) (t′ : List ℤ) (a : MetAnswer) → LoadSays t bs t′ a → length bs % SAVED ≢ 0 → t′ ≡ t
 load-kept t bs t′ a (LoadSays.size n e w) d = w
 load-kept t bs t′ a (LoadSays.file z n e w) d = w
-load-kept t bs t′ a (LoadSays.stopped (LoadStops.stops z r n number value u h b c e) w) d = absurd (d r)
+load-kept t bs t′ a (LoadSays.stopped (LoadStops.stops z r n number u o h b c q e) w) d = absurd (d r)
 load-kept t bs t′ a (LoadSays.done z r b e) d = absurd (d r)
 
 pub unwritten : Unwritten
@@ -120,23 +121,24 @@ unwritten = record {
 }
 
 -- a load refused for one of its records, that keeps the records before it
-pub stopped-fresh : (t : List ℤ) (bs : List ℕ) (t′ : List ℤ) (a : Answer) → SizeRight t → length bs % SAVED ≡ 0 → LoadSays t bs t′ a → Refuses a
+pub stopped-fresh : (t : List ℤ) (bs : List ℕ) (t′ : List ℤ) (a : MetAnswer) → SizeRight t → length bs % SAVED ≡ 0 → LoadSays t bs t′ a → Refuses (a .number)
     → t′ ≡ freshTable (length t)
 stopped-fresh t bs t′ a z d (LoadSays.size n e w) r = absurd (n z)
 stopped-fresh t bs t′ a z d (LoadSays.file y n e w) r = absurd (n d)
 stopped-fresh t bs t′ a z d (LoadSays.stopped c w) r = w
-stopped-fresh t bs t′ a z d (LoadSays.done y n b e) r = absurd (r (number-is e))
+stopped-fresh t bs t′ a z d (LoadSays.done y n b e) r = absurd (r (met-number e))
 
 -- or that tells another index than that of the refused record
 pub stopped-at : (t : List ℤ) (bs : List ℕ) (t′ : List ℤ) (number n : ℕ) → (z : SizeRight t) → length bs % SAVED ≡ 0 → number ≢ DONE
-    → LoadSays t bs t′ (answered number n) → Stop t bs n number
+    → LoadSays t bs t′ (withoutCell (answered number n)) → Stop t bs n number
 stopped-at t bs t′ number n z d r (LoadSays.size m e w) = absurd (m z)
 stopped-at t bs t′ number n z d r (LoadSays.file y m e w) = absurd (m d)
-stopped-at t bs t′ number n z d r (LoadSays.stopped (LoadStops.stops y q m c value u h b o e) w) =
-    let number-same : c ≡ number = number-one {a = answered c m} refl (sym (number-is e)) in
+stopped-at t bs t′ number n z d r (LoadSays.stopped (LoadStops.stops y q m c u k h b o l e) w) =
+    let number-same : c ≡ number = number-one refl (sym (met-number e)) in
+    let value-same : m ≡ n = number-one refl (sym (ap (λ a. a .value) e)) in
     subst (λ number. Stop t bs n number) number-same
-    (subst (λ n. Stop t bs n c) (sym (same-value e)) (record { before = u; built = b; value = value; refuses = o }))
-stopped-at t bs t′ number n z d r (LoadSays.done y q b e) = absurd (r (number-one {a = answered number n} refl (number-is e)))
+    (subst (λ n. Stop t bs n c) value-same (record { before = u; built = b; refusal = k; refuses = o; is = l }))
+stopped-at t bs t′ number n z d r (LoadSays.done y q b e) = absurd (r (number-one refl (met-number e)))
 
 -- ---- entries past the count changed
 
@@ -211,17 +213,17 @@ module _ (t : List ℤ) (f : Fit t) where
   step-first R w h out out′ a r n s =
       density-agrees t R w h out out′ out a (unreported (refused STEP)) s (DensitySays.step f r n refl refl) .0
 
-  module _ (R : Area) (label : ℕ) (t′ : List ℤ) (a : Answer) (s : CreateSays t R label t′ a) where
-    refuses-with : (n : ℕ) → n ≢ DONE → CreateRefuses t R label (refused n) → a ≡ refused n
+  module _ (R : Area) (label : ℕ) (t′ : List ℤ) (a : MetAnswer) (s : CreateSays t R label t′ a) where
+    refuses-with : (n : ℕ) → n ≢ DONE → CreateRefuses t R label (withoutCell (refused n)) → a ≡ withoutCell (refused n)
     refuses-with n d o =
-        sym (create-agrees t R label t t′ (refused n) a (CreateSays.refuses o refl) s .refused (λ e. not-done {value = 0} refl d e) .0)
+        sym (create-agrees t R label t t′ (withoutCell (refused n)) a (CreateSays.refuses o refl) s .refused (λ e. not-done refl d e) .0)
 
     -- LABEL before RECT
-    pub rect-first : (RectRight R → ⊥) → a ≡ refused RECT
+    pub rect-first : (RectRight R → ⊥) → a ≡ withoutCell (refused RECT)
     rect-first n = refuses-with RECT (λ e. omega arith) (CreateRefuses.rect f n refl)
 
     -- OCCUPIED or FULL before LABEL
-    pub label-next : RectRight R → label ≤ ZERO → a ≡ refused LABEL
+    pub label-next : RectRight R → label ≤ ZERO → a ≡ withoutCell (refused LABEL)
     label-next r l = refuses-with LABEL (λ e. omega arith) (CreateRefuses.label f r l refl)
 
 -- ---- what is not counted, held or met
@@ -242,7 +244,7 @@ view-empty lent part index v n = go (v .place)
 -- find: a record that its hint names and that does not hold the cell
 pub find-holds : (t : List ℤ) (x y i : ℕ) → FindSays t x y (accepted i) → Finds t x y i
 find-holds t x y i (FindSays.unfit u) = absurd (unfit-not-done t (accepted i) u refl)
-find-holds t x y i (FindSays.point f n e) = absurd (not-done {value = 0} e (λ e. omega arith) refl)
+find-holds t x y i (FindSays.point f n e) = absurd (not-done (number-is e) (λ e. omega arith) refl)
 find-holds t x y i (FindSays.done f j h e) = subst (Finds t x y) (sym (same-value e)) h
 
 -- the right and the upper edge counted as inside
@@ -251,14 +253,6 @@ right-edge-outside t x y i s e = omega (arith, find-holds t x y i s .has)
 
 pub top-edge-outside : (t : List ℤ) (x y i : ℕ) → FindSays t x y (accepted i) → num t i TOP ≢ y
 top-edge-outside t x y i s e = omega (arith, find-holds t x y i s .has)
-
--- search: a solid outside the rectangle, as one over it that a tile's tr names
-pub search-inside : (t : List ℤ) (R : Area) (i : ℕ) → SearchSays t R (accepted i) → SolidIn t i × Shares (tileOf t i) R
-search-inside t R i (SearchSays.unfit u) = absurd (unfit-not-done t (accepted i) u refl)
-search-inside t R i (SearchSays.rect f n e) = absurd (not-done {value = 0} e (λ e. omega arith) refl)
-search-inside t R i (SearchSays.free f r h e) = absurd (negative DONE i (sym e))
-search-inside t R i (SearchSays.met f r x y j h e) =
-    subst (λ i. SolidIn t i × Shares (tileOf t i) R) (sym (same-value e)) (h .solid, record { x = x; y = y; inside = h .inside; has = h .has })
 
 module _ (t : List ℤ) (f : Fit t) (i : ℕ) (u : UsedIn t i) where
   apart-from-itself : (s : Side) → Touches s (tileOf t i) (tileOf t i) → ⊥
@@ -290,7 +284,7 @@ module _ (t : List ℤ) (f : Fit t) (i : ℕ) (u : UsedIn t i) where
 -- save: another number of bytes
 pub save-counts : (t : List ℤ) (out out′ : List ℕ) (n : ℕ) → SaveSays t out out′ (accepted n) → n ≡ SAVED * solidsIn t
 save-counts t out out′ n (SaveSays.unfit u w) = absurd (unfit-not-done t (accepted n) u refl)
-save-counts t out out′ n (SaveSays.short f ks l o e w) = absurd (not-done {value = SAVED * length ks} e (λ e. omega arith) refl)
+save-counts t out out′ n (SaveSays.short f ks l o e w) = absurd (not-done (number-is e) (λ e. omega arith) refl)
 save-counts t out out′ n (SaveSays.done f m s o e) = same-value e ∙ saves-bytes t out out′ m s
 
 -- ---- density
@@ -304,7 +298,7 @@ corner-is R w h = rw (zero-mul w, zero-mul h, zero-add h, add-zero (R .left), su
 
 module _ (t : List ℤ) (R : Area) (w h : ℕ) (out out′ : List Float) (a : DensityAnswer) (s : DensitySays t R w h out out′ a) where
   -- a refusal that carries a share or a total
-  pub refused-blank : RefusesReport a → (a .lowest ≡ float 0) × (a .highest ≡ float 0) × (a .covered ≡ pos 0)
+  pub refused-blank : Refuses (a .number) → (a .lowest ≡ float 0) × (a .highest ≡ float 0) × (a .covered ≡ pos 0)
   refused-blank r = go s
     where
       blank : {b : Answer} → a ≡ unreported b → (a .lowest ≡ float 0) × (a .highest ≡ float 0) × (a .covered ≡ pos 0)
@@ -322,7 +316,7 @@ module _ (t : List ℤ) (R : Area) (w h : ℕ) (out out′ : List Float) (a : De
   windows-counted k = go s
     where
       neither : {m value : ℕ} → a ≡ unreported (answered m value) → m ≢ DONE → m ≢ SHORT → ⊥
-      neither e n o = ⊎-elim (λ h. n (refusal-number e h)) (λ h. o (refusal-number e h)) k
+      neither e n o = ⊎-elim (λ h. n (number-one (report-number e) h)) (λ h. o (number-one (report-number e) h)) k
 
       go : DensitySays t R w h out out′ a → a .value ≡ pos (windowsOf R w h)
       go (DensitySays.unfit b (Unfit.size n d) e z) = absurd (neither (e ∙ ap unreported d) (λ e. omega arith) (λ e. omega arith))
@@ -373,18 +367,19 @@ module _ (t : List ℤ) (R : Area) (w h : ℕ) (out out′ : List Float) (a : De
 -- ---- edits
 
 -- create: FULL while fewer than N solids are present, as where the used records are counted
-pub full-counts : (t : List ℤ) (R : Area) (label : ℕ) (t′ : List ℤ) (a : Answer) → CreateSays t R label t′ a → solidsIn t < capacity (recordsOf t)
+pub full-counts : (t : List ℤ) (R : Area) (label : ℕ) (t′ : List ℤ) (a : MetAnswer) → CreateSays t R label t′ a → solidsIn t < capacity (recordsOf t)
     → a .number ≢ pos FULL
-full-counts t R label t′ a (CreateSays.refuses (CreateRefuses.unfit (Unfit.size n e)) w) l h = omega (arith, number-one e h)
-full-counts t R label t′ a (CreateSays.refuses (CreateRefuses.unfit (Unfit.unsound z n e)) w) l h = omega (arith, number-one e h)
-full-counts t R label t′ a (CreateSays.refuses (CreateRefuses.rect f n e) w) l h = omega (arith, number-one e h)
-full-counts t R label t′ a (CreateSays.refuses (CreateRefuses.label f r n e) w) l h = omega (arith, number-one e h)
-full-counts t R label t′ a (CreateSays.refuses (CreateRefuses.occupied f r n x y i m e) w) l h = omega (arith, number-one e h)
+full-counts t R label t′ a (CreateSays.refuses (CreateRefuses.unfit b (Unfit.size n d) e) w) l h = omega (arith, number-one (met-number (e ∙ ap withoutCell d)) h)
+full-counts t R label t′ a (CreateSays.refuses (CreateRefuses.unfit b (Unfit.unsound z n d) e) w) l h =
+    omega (arith, number-one (met-number (e ∙ ap withoutCell d)) h)
+full-counts t R label t′ a (CreateSays.refuses (CreateRefuses.rect f n e) w) l h = omega (arith, number-one (met-number e) h)
+full-counts t R label t′ a (CreateSays.refuses (CreateRefuses.label f r n e) w) l h = omega (arith, number-one (met-number e) h)
+full-counts t R label t′ a (CreateSays.refuses (CreateRefuses.occupied f r n x y i m e) w) l h = omega (arith, number-one (met-number e) h)
 full-counts t R label t′ a (CreateSays.refuses (CreateRefuses.full f r n m c e) w) l h = omega arith
-full-counts t R label t′ a (CreateSays.done k d e) l h = omega (arith, number-one e h)
+full-counts t R label t′ a (CreateSays.done k d e) l h = omega (arith, number-one (met-number e) h)
 
 -- a solid moved to another record, by whatever a create answers
-pub create-keeps : (t : List ℤ) (R : Area) (label : ℕ) (t′ : List ℤ) (a : Answer) → CreateSays t R label t′ a → Keeps t t′
+pub create-keeps : (t : List ℤ) (R : Area) (label : ℕ) (t′ : List ℤ) (a : MetAnswer) → CreateSays t R label t′ a → Keeps t t′
 create-keeps t R label t′ a (CreateSays.refuses o w) i s = subst (λ u. SolidIn u i × (tileOf u i ≡ tileOf t i)) (sym w) (s, refl)
 create-keeps t R label t′ a (CreateSays.done k d e) i s = d .adds .kept i s
 
@@ -405,7 +400,7 @@ merged : (t : List ℤ) → Fit t → (i j : ℕ) → SpaceIn t i → SpaceIn t 
 merged t f i j u v =
     fit-forms t f .widest .strips .merged i j (space-is (recordsOf t) (tileOf t) i (u .below) (u .kind)) (space-is (recordsOf t) (tileOf t) j (v .below) (v .kind))
 
-pub create-merges : (t : List ℤ) (R : Area) (label : ℕ) (t′ : List ℤ) (a : Answer) → CreateSays t R label t′ a → a .number ≡ pos DONE → (i j : ℕ) → SpaceIn t′ i
+pub create-merges : (t : List ℤ) (R : Area) (label : ℕ) (t′ : List ℤ) (a : MetAnswer) → CreateSays t R label t′ a → a .number ≡ pos DONE → (i j : ℕ) → SpaceIn t′ i
     → SpaceIn t′ j → num t′ i LEFT ≡ num t′ j LEFT → num t′ i RIGHT ≡ num t′ j RIGHT → num t′ i TOP ≢ num t′ j BOTTOM
 create-merges t R label t′ a s e = let d = create-done s e .done in merged t′ (edited-fit t t′ (d .allows .fit) (d .edited))
 

@@ -22,11 +22,12 @@ use Rattle.seek.specs.Once.{times, times-here, times-other, directed-short}
 use Rattle.seek.specs.Order.{directed-lists}
 use Rattle.layout.specs.Patch.{patch-none, patch-start, Puts, puts-then}
 use Rattle.lister.specs.Text.{lineOf, refusedLine}
-use Rattle.ushanderi.specs.Answers.{DONE, answered, accepted, rulerArea}
+use Rattle.ushanderi.specs.Answers.{DONE, answered, accepted, rulerArea, withoutCell}
 use Rattle.ushanderi.specs.Promises.{Unfit, Fit, EnumerateSays, LoadSays, listed}
 use Rattle.ushanderi.specs.Reading.{fit-forms}
 use Rattle.ushanderi.specs.Layouts.{Ends, load-ends}
 use Rattle.ushanderi.specs.declared.answer.Answer.{Answer}
+use Rattle.ushanderi.specs.declared.answer.MetAnswer.{MetAnswer}
 
 -- ---- what the lister prints
 
@@ -41,8 +42,8 @@ linesOf t (k ∷ ks) = lineOf (tileOf t k) ++ linesOf t ks
 
 -- The layout is loaded into the table t. The enumeration of the whole plane is printed; if the load is refused, one line.
 pub data Prints (t : List ℤ) (bs text : List ℕ) : Type 0 where
-  tiles : (t′ : List ℤ) (n : ℕ) (ks : List ℕ) → LoadSays t bs t′ (accepted n) → Directed t′ whole ks → text ≡ linesOf t′ ks → Prints t bs text
-  refused : (t′ : List ℤ) (number value : ℕ) → LoadSays t bs t′ (answered number value) → number ≢ DONE
+  tiles : (t′ : List ℤ) (n : ℕ) (ks : List ℕ) → LoadSays t bs t′ (withoutCell (accepted n)) → Directed t′ whole ks → text ≡ linesOf t′ ks → Prints t bs text
+  refused : (t′ : List ℤ) (number value : ℕ) → LoadSays t bs t′ (withoutCell (answered number value)) → number ≢ DONE
       → text ≡ refusedLine (ZERO + number) (ZERO + value) → Prints t bs text
 
 -- at the start of the lent bytes
@@ -216,14 +217,14 @@ tile-read t i v h =
 -- ---- the ends of a load
 
 -- the load's number is 0 where it ends well
-ends-well : (t t′ : List ℤ) (a : Answer) → Ends t t′ a → ofZ w32 (a .number) ≡ 0 → (n : ℕ) × (a ≡ accepted n) × Fit t′ × (length t′ ≡ length t)
+ends-well : (t t′ : List ℤ) (a : MetAnswer) → Ends t t′ a → ofZ w32 (a .number) ≡ 0 → (n : ℕ) × (a ≡ withoutCell (accepted n)) × Fit t′ × (length t′ ≡ length t)
 ends-well t t′ a (Ends.well n e f l) q = (n, e, f, l)
 ends-well t t′ a (Ends.not number value e p h k) q = absurd (omega (arith, ap (λ a. ofZ w32 (a .number)) e))
 
-pub load-well : (t : List ℤ) (bs : List ℕ) (t′ : List ℤ) (a : Answer) → LoadSays t bs t′ a → ofZ w32 (a .number) ≡ 0 → Fit t′ × (length t′ ≡ length t)
+pub load-well : (t : List ℤ) (bs : List ℕ) (t′ : List ℤ) (a : MetAnswer) → LoadSays t bs t′ a → ofZ w32 (a .number) ≡ 0 → Fit t′ × (length t′ ≡ length t)
 load-well t bs t′ a s q = let (n, e, f, l) = ends-well t t′ a (load-ends t bs t′ a s) q in (f, l)
 
-pub lists-tiles : (t : List ℤ) (bs : List ℕ) (t′ : List ℤ) (a : Answer) (out out′ : List ℕ) (r : ℕ) → LoadSays t bs t′ a → ofZ w32 (a .number) ≡ 0
+pub lists-tiles : (t : List ℤ) (bs : List ℕ) (t′ : List ℤ) (a : MetAnswer) (out out′ : List ℕ) (r : ℕ) → LoadSays t bs t′ a → ofZ w32 (a .number) ≡ 0
     → PutsPlane t′ out out′ r → length out′ ≡ length out → Lists t bs out′ r
 lists-tiles t bs t′ a out out′ r s q p l =
     let (n, e, f, m) = ends-well t t′ a (load-ends t bs t′ a s) q in
@@ -233,15 +234,15 @@ lists-tiles t bs t′ a out out′ r s q p l =
     }
 
 -- a refusal's number and value as they are printed
-pub record Refuses (t : List ℤ) (bs : List ℕ) (t′ : List ℤ) (a : Answer) : Type 0 where
+pub record Refuses (t : List ℤ) (bs : List ℕ) (t′ : List ℤ) (a : MetAnswer) : Type 0 where
   pub number : ℕ
   pub value : ℕ
-  pub says : LoadSays t bs t′ (answered number value)
+  pub says : LoadSays t bs t′ (withoutCell (answered number value))
   pub not-done : number ≢ DONE
   pub first : ruler (toZ w32 (ofZ w32 (a .number))) ≡ ZERO + number
   pub second : ruler (toZ w32 (ofZ w32 (a .value))) ≡ ZERO + value
 
-ends-not : (t : List ℤ) (bs : List ℕ) (t′ : List ℤ) (a : Answer) → LoadSays t bs t′ a → Ends t t′ a → (ofZ w32 (a .number) ≡ 0 → ⊥) → Refuses t bs t′ a
+ends-not : (t : List ℤ) (bs : List ℕ) (t′ : List ℤ) (a : MetAnswer) → LoadSays t bs t′ a → Ends t t′ a → (ofZ w32 (a .number) ≡ 0 → ⊥) → Refuses t bs t′ a
 ends-not t bs t′ a s (Ends.well n e f l) q = absurd (q (ap (λ a. ofZ w32 (a .number)) e))
 ends-not t bs t′ a s (Ends.not number value e p h k) q =
     record {
@@ -253,10 +254,10 @@ ends-not t bs t′ a s (Ends.not number value e p h k) q =
       second = word-of value (a .value) (ap (λ a. a .value) e) k;
     }
 
-pub load-not : (t : List ℤ) (bs : List ℕ) (t′ : List ℤ) (a : Answer) → LoadSays t bs t′ a → (ofZ w32 (a .number) ≡ 0 → ⊥) → Refuses t bs t′ a
+pub load-not : (t : List ℤ) (bs : List ℕ) (t′ : List ℤ) (a : MetAnswer) → LoadSays t bs t′ a → (ofZ w32 (a .number) ≡ 0 → ⊥) → Refuses t bs t′ a
 load-not t bs t′ a s q = ends-not t bs t′ a s (load-ends t bs t′ a s) q
 
-pub lists-refused : (t : List ℤ) (bs : List ℕ) (t′ : List ℤ) (a : Answer) (out out′ : List ℕ) (m v r : ℕ) → (f : Refuses t bs t′ a)
+pub lists-refused : (t : List ℤ) (bs : List ℕ) (t′ : List ℤ) (a : MetAnswer) (out out′ : List ℕ) (m v r : ℕ) → (f : Refuses t bs t′ a)
     → m ≡ ZERO + f .number → v ≡ ZERO + f .value → Puts out out′ 0 (refusedLine m v) r → r ≤ length out → length out′ ≡ length out → Lists t bs out′ r
 lists-refused t bs t′ a out out′ m v r f e d p w l =
     record {

@@ -2,10 +2,11 @@
 use Prim.Native.Nat.{ℕ}
 use lib.IntN.{pos, negsuc, ℤ}
 use Rattle.ushanderi.specs.declared.answer.Answer.{Answer}
+use Rattle.ushanderi.specs.declared.answer.MetAnswer.{MetAnswer}
 use Rattle.seek.specs.Meaning.{Area}
 use Rattle.ushanderi.specs.declared.reading.Found.the-variants.{At, Point, Size, Unsound}
 use Rattle.ushanderi.specs.declared.reading.Found.{Found}
-use Rattle.ruler.specs.Ruler.{ruler}
+use Rattle.ruler.specs.Ruler.{ruler, word}
 use Rattle.density.specs.Shares.{float}
 use Rattle.density.specs.declared.windows.Report.{Report}
 use Rattle.ushanderi.specs.declared.reports.DensityAnswer.{DensityAnswer}
@@ -65,6 +66,14 @@ refused number = answered number 0
 -- area search's value where the rectangle is free: -1
 abbrev pub nothing : Answer
 nothing = record { number = pos DONE; value = negsuc 0 }
+
+-- an answer that names the cell (x, y) of the plane
+abbrev pub withCell : Answer → ℕ → ℕ → MetAnswer
+withCell a x y = record { number = a .number; value = a .value; x = word x; y = word y }
+
+-- and one that names none: it carries 0 and 0
+abbrev pub withoutCell : Answer → MetAnswer
+withoutCell a = record { number = a .number; value = a .value; x = pos 0; y = pos 0 }
 
 -- density's answer: the number of windows, and the report
 abbrev pub reported : ℕ → Report → DensityAnswer

@@ -4,7 +4,7 @@ use mathlib.Core.Logic.{_≢_}
 use mathlib.Core.List.{List}
 use Prim.Native.Nat.{ℕ, _+_, _≤_, _<_, _^_}
 use native.Mathlib.Omega.{arith}
-use lib.IntN.{ℤ}
+use lib.IntN.{ℤ, pos}
 use lib.ListN.{length}
 use borrow.Author.Tests.{eq-eqb, ne-eqb}
 use mir.Syntax.{w32}
@@ -24,11 +24,12 @@ use Rattle.seek.specs.Find.{Finds}
 use Rattle.edit.specs.Tidy.{SameTile}
 use Rattle.edit.specs.Create.{CanLay, Creates, creates-new}
 use Rattle.edit.specs.Delete.{Deletes, CanShrink, shrink-room}
-use Rattle.ushanderi.specs.Answers.{SIZE, UNSOUND, RECT, LABEL, OCCUPIED, FULL, answered, accepted, foundAnswer}
+use Rattle.ushanderi.specs.Answers.{SIZE, UNSOUND, RECT, LABEL, OCCUPIED, FULL, accepted, foundAnswer}
 use Rattle.ushanderi.specs.Edits.{drawn, Adds, Removes, Edited, labelIn}
 use Rattle.ushanderi.specs.Promises.{Unfit, Fit, FindSays, CreateRefuses, CreateAllows, CreateDone, CreateSays, DeleteRefuses, DeleteAllows, DeleteSays}
 use Rattle.ushanderi.specs.Reading.{fit-forms, low-record, NotFound, found-at}
 use Rattle.ushanderi.specs.declared.answer.Answer.{Answer}
+use Rattle.ushanderi.specs.declared.answer.MetAnswer.{MetAnswer}
 use Rattle.ushanderi.specs.declared.reading.Found.{Found}
 use Rattle.ushanderi.specs.declared.editing.MayCreate.{MayCreate}
 use Rattle.ushanderi.specs.declared.editing.MayCreate.the-variants as MayCreates
@@ -52,24 +53,25 @@ DeleteDecides t x y (MayDeletes.Refused a) = DeleteRefuses t x y a
 DeleteDecides t x y (MayDeletes.Go i) = DeleteAllows t x y i
 
 -- a create's refusal has a number from 1 on
-pub record Refusal (a : Answer) : Type 0 where
+pub record Refusal (a : MetAnswer) : Type 0 where
   pub number : ℕ
-  pub value : ℕ
-  pub is : a ≡ answered number value
+  pub is : a .number ≡ pos number
   pub some : 0 < number
   pub low : number < 2 ^ 31
 
-pub refusal : (t : List ℤ) (A : Area) (label : ℕ) (a : Answer) → CreateRefuses t A label a → Refusal a
-refusal t A label a (CreateRefuses.unfit (Unfit.size s e)) = record { number = SIZE; value = 0; is = e; some = omega arith; low = omega arith }
-refusal t A label a (CreateRefuses.unfit (Unfit.unsound s n e)) = record { number = UNSOUND; value = 0; is = e; some = omega arith; low = omega arith }
-refusal t A label a (CreateRefuses.rect f r e) = record { number = RECT; value = 0; is = e; some = omega arith; low = omega arith }
-refusal t A label a (CreateRefuses.label f r l e) = record { number = LABEL; value = 0; is = e; some = omega arith; low = omega arith }
-refusal t A label a (CreateRefuses.occupied f r l x y i h e) = record { number = OCCUPIED; value = i; is = e; some = omega arith; low = omega arith }
-refusal t A label a (CreateRefuses.full f r l h c e) = record { number = FULL; value = 0; is = e; some = omega arith; low = omega arith }
+pub refusal : (t : List ℤ) (A : Area) (label : ℕ) (a : MetAnswer) → CreateRefuses t A label a → Refusal a
+refusal t A label a (CreateRefuses.unfit b (Unfit.size s e) w) =
+    record { number = SIZE; is = ap (λ a. a .number) w ∙ ap (λ a. a .number) e; some = omega arith; low = omega arith }
+refusal t A label a (CreateRefuses.unfit b (Unfit.unsound s n e) w) =
+    record { number = UNSOUND; is = ap (λ a. a .number) w ∙ ap (λ a. a .number) e; some = omega arith; low = omega arith }
+refusal t A label a (CreateRefuses.rect f r e) = record { number = RECT; is = ap (λ a. a .number) e; some = omega arith; low = omega arith }
+refusal t A label a (CreateRefuses.label f r l e) = record { number = LABEL; is = ap (λ a. a .number) e; some = omega arith; low = omega arith }
+refusal t A label a (CreateRefuses.occupied f r l x y i h e) = record { number = OCCUPIED; is = ap (λ a. a .number) e; some = omega arith; low = omega arith }
+refusal t A label a (CreateRefuses.full f r l h c e) = record { number = FULL; is = ap (λ a. a .number) e; some = omega arith; low = omega arith }
 
 -- ---- create
 
-pub create-same : {t t′ : List ℤ} {A B : Area} {l m : ℕ} {a : Answer} → A ≡ B → l ≡ m → CreateSays t A l t′ a → CreateSays t B m t′ a
+pub create-same : {t t′ : List ℤ} {A B : Area} {l m : ℕ} {a : MetAnswer} → A ≡ B → l ≡ m → CreateSays t A l t′ a → CreateSays t B m t′ a
 create-same {t} {t′} {A} {B} {l} {m} {a} p q s = subst₂ (λ A l. CreateSays t A l t′ a) p q s
 
 -- the record of a new solid is a word's

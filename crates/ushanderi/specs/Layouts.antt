@@ -5,9 +5,6 @@ use Prim.Native.Nat.{ℕ, _+_, _*_, _/_, _%_, _≤_, _<_, _^_}
 use native.Mathlib.Omega.{arith}
 use lib.IntN.{ℤ, pos}
 use lib.ListN.{length}
-use mir.Syntax.{w32}
-use mir.Val.{toZ, ofZ}
-use Rattle.ruler.specs.Ruler.{count-bits}
 use Rattle.table.specs.Words.{WIDTH, LEAST, MOST}
 use Rattle.table.specs.Sound.{SizeRight, UsedIn, Sound, solidsIn}
 use Rattle.table.specs.Fresh.{freshTable}
@@ -16,11 +13,11 @@ use Rattle.layout.specs.Bytes.{savedAt, SAVED}
 use Rattle.layout.specs.declared.bytes.Saved.{Saved}
 use Rattle.layout.specs.Order.{Saves}
 use Rattle.layout.specs.OneOrder.{some-order, order-length, saves-bytes}
-use Rattle.ushanderi.specs.Answers.{SIZE, SHORT, FILE, answered, accepted}
+use Rattle.ushanderi.specs.Answers.{SIZE, SHORT, FILE, answered, accepted, withoutCell}
 use Rattle.ushanderi.specs.Promises.{Fit, CreateRefuses, CreateDone, SaveSays, areaIn, Built, LoadStops, LoadSays}
 use Rattle.ushanderi.specs.Reading.{fit-forms}
 use Rattle.ushanderi.specs.Editing.{CreateEnds, refusal, adds-one}
-use Rattle.ushanderi.specs.declared.answer.Answer.{Answer}
+use Rattle.ushanderi.specs.declared.answer.MetAnswer.{MetAnswer}
 use Rattle.ushanderi.specs.declared.editing.Created.{Created}
 
 -- ---- save
@@ -82,18 +79,19 @@ module _ (t₀ : List ℤ) (bs : List ℕ) (t : List ℤ) (from n : ℕ) (l : Lo
   pub loading-low : n < 2 ^ 31
   loading-low = omega (arith, l .solids, save-low t (l .fit))
 
-  pub load-done : (u : List ℤ) → SizeRight u → length bs % SAVED ≡ 0 → length t₀ ≡ length u → n ≡ length bs / SAVED → LoadSays u bs t (accepted n)
+  pub load-done : (u : List ℤ) → SizeRight u → length bs % SAVED ≡ 0 → length t₀ ≡ length u → n ≡ length bs / SAVED
+      → LoadSays u bs t (withoutCell (accepted n))
   load-done u z w e q =
-      LoadSays.done z w (subst (λ m. Built m bs (length bs / SAVED) t) e (subst (λ m. Built (length t₀) bs m t) q (l .built))) (ap accepted q)
+      LoadSays.done z w (subst (λ m. Built m bs (length bs / SAVED) t) e (subst (λ m. Built (length t₀) bs m t) q (l .built))) (ap (λ n. withoutCell (accepted n)) q)
 
-  pub load-stopped : (u t′ : List ℤ) (a b : Answer) → SizeRight u → length bs % SAVED ≡ 0 → length t₀ ≡ length u → n < length bs / SAVED
+  pub load-stopped : (u t′ : List ℤ) (a b : MetAnswer) → SizeRight u → length bs % SAVED ≡ 0 → length t₀ ≡ length u → n < length bs / SAVED
       → CreateRefuses t (areaIn bs n) (savedAt bs n .label) a → t′ ≡ freshTable (length t)
-      → b ≡ record { number = toZ w32 (ofZ w32 (a .number)); value = pos n } → LoadSays u bs t′ b
+      → b ≡ withoutCell (record { number = a .number; value = pos n }) → LoadSays u bs t′ b
   load-stopped u t′ a b z w e h c q r =
       let f = refusal t (areaIn bs n) (savedAt bs n .label) a c in
       LoadSays.stopped
-      (LoadStops.stops z w n (f .number) (f .value) t h (subst (λ m. Built m bs n t) e (l .built)) (subst (CreateRefuses t (areaIn bs n) (savedAt bs n .label)) (f .is) c)
-      (r ∙ ap (λ a. record { number = toZ w32 (ofZ w32 (a .number)); value = pos n }) (f .is) ∙ ap (λ z. record { number = z; value = pos n }) (count-bits (f .number) (pos (f .number)) refl (f .low))))
+      (LoadStops.stops z w n (f .number) t a h (subst (λ m. Built m bs n t) e (l .built)) c (f .is)
+      (r ∙ ap (λ z. withoutCell (record { number = z; value = pos n })) (f .is)))
       (q ∙ ap freshTable (l .size ∙ e))
 
 -- the record read is the file's
@@ -127,15 +125,15 @@ module _ (t : List ℤ) (bs : List ℕ) (z : SizeRight t) where
   built-solids (Built.more {n} {u} {u′} b k d) = omega (arith, built-solids b, adds-one u u′ k _ (d .edited .size) (d .adds))
 
 -- the two ends of a load: a sound table of the same length, or a refusal whose number and value are words'
-pub data Ends (t t′ : List ℤ) (a : Answer) : Type 0 where
-  well : (n : ℕ) → a ≡ accepted n → Fit t′ → length t′ ≡ length t → Ends t t′ a
-  not : (number value : ℕ) → a ≡ answered number value → 0 < number → number < 2 ^ 31 → value < 2 ^ 31 → Ends t t′ a
+pub data Ends (t t′ : List ℤ) (a : MetAnswer) : Type 0 where
+  well : (n : ℕ) → a ≡ withoutCell (accepted n) → Fit t′ → length t′ ≡ length t → Ends t t′ a
+  not : (number value : ℕ) → a ≡ withoutCell (answered number value) → 0 < number → number < 2 ^ 31 → value < 2 ^ 31 → Ends t t′ a
 
-pub load-ends : (t : List ℤ) (bs : List ℕ) (t′ : List ℤ) (a : Answer) → LoadSays t bs t′ a → Ends t t′ a
+pub load-ends : (t : List ℤ) (bs : List ℕ) (t′ : List ℤ) (a : MetAnswer) → LoadSays t bs t′ a → Ends t t′ a
 load-ends t bs t′ a (LoadSays.size n e q) = not SIZE 0 e (omega arith) (omega arith) (omega arith)
 load-ends t bs t′ a (LoadSays.file z n e q) = not FILE 0 e (omega arith) (omega arith) (omega arith)
-load-ends t bs t′ a (LoadSays.stopped (LoadStops.stops z w n number value u h b c e) q) =
-    let f = refusal u (areaIn bs n) (savedAt bs n .label) (answered number value) c in
-    let s : number ≡ f .number = let p : pos number ≡ pos (f .number) = ap (λ a. a .number) (f .is) in cc in
+load-ends t bs t′ a (LoadSays.stopped (LoadStops.stops z w n number u r h b c d e) q) =
+    let f = refusal u (areaIn bs n) (savedAt bs n .label) r c in
+    let s : number ≡ f .number = let p : pos number ≡ pos (f .number) = sym d ∙ f .is in cc in
     not number n e (omega (arith, f .some)) (omega (arith, f .low)) (omega (arith, built-solids t bs z b, save-low u (built-fit t bs z b)))
 load-ends t bs t′ a (LoadSays.done z w b e) = well (length bs / SAVED) e (built-fit t bs z b) (built-length t bs z b)

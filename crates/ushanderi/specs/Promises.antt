@@ -20,8 +20,9 @@ use Rattle.density.specs.Report.{Reports}
 use Rattle.density.specs.declared.windows.Report.{Report}
 use Rattle.layout.specs.Bytes.{savedAt, SAVED}
 use Rattle.layout.specs.Order.{Comes, Saves}
-use Rattle.ushanderi.specs.Answers.{SIZE, UNSOUND, POINT, RECT, LABEL, OCCUPIED, FULL, SPACE, SIDE, SHORT, FILE, ROOM, STEP, answered, accepted, refused, nothing, reported, unreported}
+use Rattle.ushanderi.specs.Answers.{SIZE, UNSOUND, POINT, RECT, LABEL, OCCUPIED, FULL, SPACE, SIDE, SHORT, FILE, ROOM, STEP, answered, accepted, refused, nothing, withCell, withoutCell, reported, unreported}
 use Rattle.ushanderi.specs.declared.answer.Answer.{Answer}
+use Rattle.ushanderi.specs.declared.answer.MetAnswer.{MetAnswer}
 use Rattle.ushanderi.specs.declared.reports.DensityAnswer.{DensityAnswer}
 use Rattle.ushanderi.specs.Edits.{drawn, Adds, Removes, Edited, labelIn, NoRoom}
 
@@ -71,12 +72,12 @@ pub data NeighboursSays (t : List ℤ) (x y : ℕ) (side : ℤ) (out out′ : Li
   done : Fit t → (s i : ℕ) (ks : List ℕ) → IsSide side s → Finds t x y i → Neighbours t (sideOf s) i ks → length ks ≤ length out
       → a ≡ accepted (length ks) → out′ ≡ listed ks out → NeighboursSays t x y side out out′ a
 
--- Area search: 1, 2, 4. Value: -1 if the rectangle is free, else the solid holding its first occupied cell.
-pub data SearchSays (t : List ℤ) (A : Area) (a : Answer) : Type 0 where
-  unfit : Unfit t a → SearchSays t A a
-  rect : Fit t → (RectRight A → ⊥) → a ≡ refused RECT → SearchSays t A a
-  free : Fit t → RectRight A → FreeArea t A → a ≡ nothing → SearchSays t A a
-  met : Fit t → RectRight A → (x y i : ℕ) → First t A x y i → a ≡ accepted i → SearchSays t A a
+-- Area search: 1, 2, 4. Value: -1 if the rectangle is free, else the solid holding its first occupied cell, and that cell.
+pub data SearchSays (t : List ℤ) (A : Area) (a : MetAnswer) : Type 0 where
+  unfit : (b : Answer) → Unfit t b → a ≡ withoutCell b → SearchSays t A a
+  rect : Fit t → (RectRight A → ⊥) → a ≡ withoutCell (refused RECT) → SearchSays t A a
+  free : Fit t → RectRight A → FreeArea t A → a ≡ withoutCell nothing → SearchSays t A a
+  met : Fit t → RectRight A → (x y i : ℕ) → First t A x y i → a ≡ withCell (accepted i) x y → SearchSays t A a
 
 -- Enumerate: 1, 2, 4, 10. Value: how many.
 pub data EnumerateSays (t : List ℤ) (A : Area) (out out′ : List ℤ) (a : Answer) : Type 0 where
@@ -97,13 +98,14 @@ pub data DensitySays (t : List ℤ) (A : Area) (w h : ℕ) (out out′ : List Fl
   done : Fit t → RectRight A → Steps A w h → windowsOf A w h ≤ length out → (r : Report) → Reports t A w h out out′ r → a ≡ reported (windowsOf A w h) r
       → DensitySays t A w h out out′ a
 
--- Create: 1, 2, 4, 5, 6, 7. Value: the new solid's record. OCCUPIED's value: the record that area search gives.
-pub data CreateRefuses (t : List ℤ) (A : Area) (label : ℕ) (a : Answer) : Type 0 where
-  unfit : Unfit t a → CreateRefuses t A label a
-  rect : Fit t → (RectRight A → ⊥) → a ≡ refused RECT → CreateRefuses t A label a
-  label : Fit t → RectRight A → label ≤ ZERO → a ≡ refused LABEL → CreateRefuses t A label a
-  occupied : Fit t → RectRight A → ZERO < label → (x y i : ℕ) → First t A x y i → a ≡ answered OCCUPIED i → CreateRefuses t A label a
-  full : Fit t → RectRight A → ZERO < label → FreeArea t A → solidsIn t ≡ capacity (recordsOf t) → a ≡ refused FULL → CreateRefuses t A label a
+-- Create: 1, 2, 4, 5, 6, 7. Value: the new solid's record. OCCUPIED's value and cell: the record and the cell that area search gives.
+pub data CreateRefuses (t : List ℤ) (A : Area) (label : ℕ) (a : MetAnswer) : Type 0 where
+  unfit : (b : Answer) → Unfit t b → a ≡ withoutCell b → CreateRefuses t A label a
+  rect : Fit t → (RectRight A → ⊥) → a ≡ withoutCell (refused RECT) → CreateRefuses t A label a
+  label : Fit t → RectRight A → label ≤ ZERO → a ≡ withoutCell (refused LABEL) → CreateRefuses t A label a
+  occupied : Fit t → RectRight A → ZERO < label → (x y i : ℕ) → First t A x y i → a ≡ withCell (answered OCCUPIED i) x y → CreateRefuses t A label a
+  full : Fit t → RectRight A → ZERO < label → FreeArea t A → solidsIn t ≡ capacity (recordsOf t) → a ≡ withoutCell (refused FULL)
+      → CreateRefuses t A label a
 
 -- what holds where none of them does
 pub record CreateAllows (t : List ℤ) (A : Area) (label : ℕ) : Type 0 where
@@ -118,9 +120,9 @@ pub record CreateDone (t : List ℤ) (A : Area) (label : ℕ) (t′ : List ℤ) 
   pub edited : Edited t t′
   pub adds : Adds t t′ k (drawn A label)
 
-pub data CreateSays (t : List ℤ) (A : Area) (label : ℕ) (t′ : List ℤ) (a : Answer) : Type 0 where
+pub data CreateSays (t : List ℤ) (A : Area) (label : ℕ) (t′ : List ℤ) (a : MetAnswer) : Type 0 where
   refuses : CreateRefuses t A label a → t′ ≡ t → CreateSays t A label t′ a
-  done : (k : ℕ) → CreateDone t A label t′ k → a ≡ accepted k → CreateSays t A label t′ a
+  done : (k : ℕ) → CreateDone t A label t′ k → a ≡ withoutCell (accepted k) → CreateSays t A label t′ a
 
 -- Delete at a cell: 1, 2, 3, 8, 12. Value: the label removed.
 pub data DeleteRefuses (t : List ℤ) (x y : ℕ) (a : Answer) : Type 0 where
@@ -161,14 +163,15 @@ pub data Built (words : ℕ) (bs : List ℕ) : ℕ → List ℤ → Type 0 where
   none : Built words bs 0 (freshTable words)
   more : {n : ℕ} {u u′ : List ℤ} → Built words bs n u → (k : ℕ) → CreateDone u (areaIn bs n) (savedAt bs n .label) u′ k → Built words bs (n + 1) u′
 
--- a load that comes to a refused create: the answer is that refusal's number, the value its index
-pub data LoadStops (t : List ℤ) (bs : List ℕ) (a : Answer) : Type 0 where
-  stops : SizeRight t → length bs % SAVED ≡ 0 → (n number value : ℕ) (u : List ℤ) → n < length bs / SAVED → Built (length t) bs n u
-      → CreateRefuses u (areaIn bs n) (savedAt bs n .label) (answered number value) → a ≡ answered number n → LoadStops t bs a
+-- a load that comes to a refused create: the answer is that refusal's number, the value its index, and no cell
+pub data LoadStops (t : List ℤ) (bs : List ℕ) (a : MetAnswer) : Type 0 where
+  stops : SizeRight t → length bs % SAVED ≡ 0 → (n number : ℕ) (u : List ℤ) (r : MetAnswer) → n < length bs / SAVED → Built (length t) bs n u
+      → CreateRefuses u (areaIn bs n) (savedAt bs n .label) r → r .number ≡ pos number → a ≡ withoutCell (answered number n) → LoadStops t bs a
 
 -- Load: 1, 11, then fresh, then one create for each record in file order; at the first refused one a fresh plane. Value: the number of records.
-pub data LoadSays (t : List ℤ) (bs : List ℕ) (t′ : List ℤ) (a : Answer) : Type 0 where
-  size : (SizeRight t → ⊥) → a ≡ refused SIZE → t′ ≡ t → LoadSays t bs t′ a
-  file : SizeRight t → length bs % SAVED ≢ 0 → a ≡ refused FILE → t′ ≡ t → LoadSays t bs t′ a
+pub data LoadSays (t : List ℤ) (bs : List ℕ) (t′ : List ℤ) (a : MetAnswer) : Type 0 where
+  size : (SizeRight t → ⊥) → a ≡ withoutCell (refused SIZE) → t′ ≡ t → LoadSays t bs t′ a
+  file : SizeRight t → length bs % SAVED ≢ 0 → a ≡ withoutCell (refused FILE) → t′ ≡ t → LoadSays t bs t′ a
   stopped : LoadStops t bs a → t′ ≡ freshTable (length t) → LoadSays t bs t′ a
-  done : SizeRight t → length bs % SAVED ≡ 0 → Built (length t) bs (length bs / SAVED) t′ → a ≡ accepted (length bs / SAVED) → LoadSays t bs t′ a
+  done : SizeRight t → length bs % SAVED ≡ 0 → Built (length t) bs (length bs / SAVED) t′ → a ≡ withoutCell (accepted (length bs / SAVED))
+      → LoadSays t bs t′ a

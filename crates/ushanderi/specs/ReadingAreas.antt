@@ -10,15 +10,16 @@ use mir.Val.{SFits, toZ, ofZ}
 use Rattle.ruler.specs.Ruler.{ruler, ruler-bits}
 use Rattle.table.specs.Sound.{SizeRight}
 use Rattle.seek.specs.Meaning.{Area, RectRight, Directed}
-use Rattle.seek.specs.Search.{Searches, nothing, solid}
+use Rattle.seek.specs.Search.{Searches, nothing, solid, searches-met}
 use Rattle.seek.specs.Writing.{writes-whole}
 use Rattle.seek.specs.Enumerate.{WritesArea, CountsArea, counts-area-short}
 use Rattle.seek.specs.declared.area.Seen.{Seen}
 use Rattle.seek.specs.declared.area.Seen.the-variants as Seens
 use Rattle.ushanderi.specs.Answers
-use Rattle.ushanderi.specs.Answers.{SHORT, accepted, answered, rulerArea}
+use Rattle.ushanderi.specs.Answers.{SHORT, accepted, answered, withCell, withoutCell, rulerArea}
 use Rattle.ushanderi.specs.Promises.{Fit, SearchSays, EnumerateSays}
 use Rattle.ushanderi.specs.declared.answer.Answer.{Answer}
+use Rattle.ushanderi.specs.declared.answer.MetAnswer.{MetAnswer}
 use Rattle.ushanderi.specs.Reading.{fit-forms, low-record}
 
 -- ---- the four words of a rectangle
@@ -35,21 +36,27 @@ area-bits left bottom right top f g h k =
 
 -- ---- area search
 
--- the number and the value of each case
-abbrev pub seenAnswer : Seen → Answer
-seenAnswer (Seens.Nothing k) = Answers.nothing
-seenAnswer (Seens.Solid i x y) = accepted i
+-- the number, the value and the cell of each case
+abbrev pub seenAnswer : Seen → MetAnswer
+seenAnswer (Seens.Nothing k) = withoutCell Answers.nothing
+seenAnswer (Seens.Solid i x y) = withCell (accepted i) x y
 
 pub searches-says : (t : List ℤ) (A : Area) (s : Seen) → Fit t → RectRight A → Searches t A s → SearchSays t A (seenAnswer s)
 searches-says t A s f r (nothing h u) = SearchSays.free f r h refl
 searches-says t A s f r (solid {i} {x} {y} h) = SearchSays.met f r x y i h refl
 
-pub search-same : {t : List ℤ} {A B : Area} {a : Answer} → A ≡ B → SearchSays t A a → SearchSays t B a
+pub search-same : {t : List ℤ} {A B : Area} {a : MetAnswer} → A ≡ B → SearchSays t A a → SearchSays t B a
 search-same {t} {A} {B} {a} e s = subst (λ A. SearchSays t A a) e s
 
 pub searches-low : (t : List ℤ) (A : Area) (s : Seen) (i x y : ℕ) → SizeRight t → Searches t A s → s ≡ Seens.Solid i x y → i < 2 ^ 31
 searches-low t A s i x y z (nothing h u) e = absurd (let z : _≡_ {A = ℕ} 0 1 = cc in omega arith)
 searches-low t A s i x y z (solid {i = k} h) e = let d : k ≡ i = cc in low-record t i z (omega (arith, h .solid .below))
+
+-- a cell of the area is of words
+pub searches-cell : (t : List ℤ) (A : Area) (s : Seen) (i x y : ℕ) → RectRight A → Searches t A s → s ≡ Seens.Solid i x y → (x < 2 ^ 32) × (y < 2 ^ 32)
+searches-cell t A s i x y r h e =
+    let f = searches-met t A s i x y h e in
+    (omega (arith, f .inside, r .to-right), omega (arith, f .inside, r .to-top))
 
 -- ---- enumeration
 

@@ -1,13 +1,22 @@
-// Answers: 01's numbers by name, each once, and the value beside them.
+// Answers: 01's numbers by name, each once, the value beside them, and the cell that some calls name.
 ghost use mathlib.Core.Path.{_≡_};
 ghost use Prim.Native.Nat.{_<_, _^_};
 ghost use lib.IntN.{pos};
-ghost use Rattle.ushanderi.specs.Answers.{accepted};
+ghost use Rattle.ushanderi.specs.Answers.{accepted, withCell, withoutCell};
 
 #[repr(C)]
 pub struct Answer {
     pub number: i32,
     pub value: i32,
+}
+
+// An answer that also names a cell: the first occupied one, where a search or a create was stopped by it.
+#[repr(C)]
+pub struct MetAnswer {
+    pub number: i32,
+    pub value: i32,
+    pub x: i32,
+    pub y: i32,
 }
 
 pub const DONE: i32 = 0;
@@ -62,4 +71,30 @@ pub(crate) fn done(value: u64) -> Answer
     ensures { λ r. ⌜ r ≡ accepted value ⌝ }
 {
     answered(DONE, value)
+}
+
+// The cell of a search, from the ruler.
+pub(crate) fn with_cell(a: Answer, x: u64, y: u64) -> MetAnswer
+    requires { ⌜ x < 2 ^ 32 ⌝ }
+    requires { ⌜ y < 2 ^ 32 ⌝ }
+    ensures { λ r. ⌜ r ≡ withCell a x y ⌝ }
+{
+    MetAnswer {
+        number: a.number,
+        value: a.value,
+        x: ruler::word_at(x),
+        y: ruler::word_at(y),
+    }
+}
+
+// An answer that names no cell has 0 and 0.
+pub(crate) fn without_cell(a: Answer) -> MetAnswer
+    ensures { λ r. ⌜ r ≡ withoutCell a ⌝ }
+{
+    MetAnswer {
+        number: a.number,
+        value: a.value,
+        x: 0,
+        y: 0,
+    }
 }

@@ -9,12 +9,15 @@ ghost use Rattle.ushanderi.specs.Answers.{rulerArea};
 use crate::answer::Answer;
 use crate::answer::FULL;
 use crate::answer::LABEL;
+use crate::answer::MetAnswer;
 use crate::answer::OCCUPIED;
 use crate::answer::RECT;
 use crate::answer::SPACE;
 use crate::answer::answered;
 use crate::answer::done;
 use crate::answer::refused;
+use crate::answer::with_cell;
+use crate::answer::without_cell;
 use crate::entry::Entry;
 use crate::entry::admit;
 use crate::entry::entry_answer;
@@ -29,7 +32,7 @@ use table::numbers;
 
 // The refusal of a create as it goes out, or that it may go on: the search ended at this tile, where the new solid begins.
 enum MayCreate {
-    Refused(Answer),
+    Refused(MetAnswer),
     Go(usize),
 }
 
@@ -40,20 +43,22 @@ fn may_create(t: &[i32], from: usize, area: Area, label: u64, solids: usize) -> 
 {
     if seek::rect_right(area) {
         if label <= numbers::ZERO {
-            return MayCreate::Refused(refused(LABEL));
+            return MayCreate::Refused(without_cell(refused(LABEL)));
         }
         let s = seek::search(t, from, area.left, area.bottom, area.right, area.top);
         match s {
-            Seen::Solid(i, _, _) => return MayCreate::Refused(answered(OCCUPIED, i as u64)),
+            Seen::Solid(i, x, y) => {
+                return MayCreate::Refused(with_cell(answered(OCCUPIED, i as u64), x, y));
+            }
             Seen::Nothing(last) => {
                 if solids < table::capacity(t) {
                     return MayCreate::Go(last);
                 }
             }
         }
-        return MayCreate::Refused(refused(FULL));
+        return MayCreate::Refused(without_cell(refused(FULL)));
     }
-    MayCreate::Refused(refused(RECT))
+    MayCreate::Refused(without_cell(refused(RECT)))
 }
 
 // The act, where the decision lets it go on: the new solid's record. Free records are sought near the record `near`.
@@ -81,7 +86,7 @@ fn draw(t: &mut [i32], near: usize, from: usize, area: Area, label: u64) -> usiz
 // What came of a create: the new solid's record, or the refusal.
 pub(crate) enum Created {
     At(usize),
-    Refused(Answer),
+    Refused(MetAnswer),
 }
 
 // One create on a table that is known to be sound and to have so many solids: the decision, then the act.
@@ -102,12 +107,12 @@ pub(crate) fn create_one(
     }
 }
 
-pub fn create(t: &mut [i32], left: i32, bottom: i32, right: i32, top: i32, label: i32) -> Answer
+pub fn create(t: &mut [i32], left: i32, bottom: i32, right: i32, top: i32, label: i32) -> MetAnswer
     ensures { λ r. ⌜ CreateSays (now (t .entry)) (rulerArea left bottom right top) (ruler label) (now (t .exit)) r ⌝ }
 {
     let e = admit(t);
     let Entry::Sound(solids) = e else {
-        return entry_answer(e);
+        return without_cell(entry_answer(e));
     };
     let from = seek::first_used(t);
     let c = create_one(
@@ -118,7 +123,7 @@ pub fn create(t: &mut [i32], left: i32, bottom: i32, right: i32, top: i32, label
         solids,
     );
     match c {
-        Created::At(k) => done(k as u64),
+        Created::At(k) => without_cell(done(k as u64)),
         Created::Refused(a) => a,
     }
 }

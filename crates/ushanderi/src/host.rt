@@ -4,6 +4,7 @@ ghost use Rattle.table.specs.View.{Places};
 ghost use Rattle.ushanderi.specs.Promises.{FreshSays, CheckSays, FindSays, NeighboursSays, SearchSays, EnumerateSays, DensitySays, CreateSays, DeleteSays, SaveSays, LoadSays};
 ghost use Rattle.ushanderi.specs.Answers.{rulerArea};
 use crate::answer::Answer;
+use crate::answer::MetAnswer;
 use crate::editing;
 use crate::layouts;
 use crate::plane;
@@ -50,7 +51,7 @@ pub extern "C" fn ush_neighbours(t: &[i32], x: i32, y: i32, side: i32, out: &mut
 }
 
 #[no_mangle]
-pub extern "C" fn ush_search(t: &[i32], left: i32, bottom: i32, right: i32, top: i32) -> Answer
+pub extern "C" fn ush_search(t: &[i32], left: i32, bottom: i32, right: i32, top: i32) -> MetAnswer
     ensures { λ r. ⌜ SearchSays (now (t .entry)) (rulerArea left bottom right top) r ⌝ }
 {
     reading::search(t, left, bottom, right, top)
@@ -94,7 +95,7 @@ pub extern "C" fn ush_create(
     right: i32,
     top: i32,
     label: i32,
-) -> Answer
+) -> MetAnswer
     ensures { λ r. ⌜ CreateSays (now (t .entry)) (rulerArea left bottom right top) (ruler label) (now (t .exit)) r ⌝ }
 {
     editing::create(t, left, bottom, right, top, label)
@@ -115,7 +116,7 @@ pub extern "C" fn ush_save(t: &[i32], out: &mut [u8]) -> Answer
 }
 
 #[no_mangle]
-pub extern "C" fn ush_load(t: &mut [i32], bytes: &[u8]) -> Answer
+pub extern "C" fn ush_load(t: &mut [i32], bytes: &[u8]) -> MetAnswer
     ensures { λ r. ⌜ LoadSays (now (t .entry)) (now (bytes .entry)) (now (t .exit)) r ⌝ }
 {
     layouts::load(t, bytes)

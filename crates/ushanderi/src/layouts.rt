@@ -1,18 +1,22 @@
 // The calls on saved layouts: save and load.
 ghost use mathlib.Core.Path.{_≡_};
-ghost use Prim.Native.Nat.{_+_, _*_, _%_, _≤_};
+ghost use Prim.Native.Nat.{_+_, _*_, _%_, _≤_, _<_, _^_};
+ghost use lib.IntN.{pos};
 ghost use lib.ListN.{length};
 ghost use Rattle.table.specs.Sound.{SizeRight, UsedIn, solidsIn};
 ghost use Rattle.layout.specs.Bytes.{savedAt, SAVED};
 ghost use Rattle.ushanderi.specs.Promises.{Fit, SaveSays, areaIn, LoadSays};
 ghost use Rattle.ushanderi.specs.Editing.{CreateEnds};
+ghost use Rattle.ushanderi.specs.Answers.{withoutCell};
 use crate::answer::Answer;
 use crate::answer::FILE;
+use crate::answer::MetAnswer;
 use crate::answer::SHORT;
 use crate::answer::SIZE;
 use crate::answer::answered;
 use crate::answer::done;
 use crate::answer::refused;
+use crate::answer::without_cell;
 use crate::editing::Created;
 use crate::editing::create_one;
 use crate::entry::Entry;
@@ -63,8 +67,21 @@ fn load_one(t: &mut [i32], bytes: &[u8], from: usize, n: usize) -> Created
     create_one(t, from, area, s.label, n)
 }
 
+// The refusal of the create for record n as load gives it: its number and the index, and no cell, since the plane is fresh again.
+fn stopped(refusal: MetAnswer, n: u64) -> MetAnswer
+    requires { ⌜ n < 2 ^ 31 ⌝ }
+    ensures { λ r. ⌜ r ≡ withoutCell (record { number = refusal .number; value = pos n }) ⌝ }
+{
+    MetAnswer {
+        number: refusal.number,
+        value: ruler::count(n),
+        x: 0,
+        y: 0,
+    }
+}
+
 // The creates for all records of a file, on a fresh plane; where one is refused the plane is fresh again.
-fn load_all(t: &mut [i32], bytes: &[u8]) -> Answer
+fn load_all(t: &mut [i32], bytes: &[u8]) -> MetAnswer
     requires { ⌜ SizeRight (now t) ⌝ }
     requires { ⌜ length (now bytes) % SAVED ≡ 0 ⌝ }
     ensures { λ r. ⌜ LoadSays (now (t .entry)) (now (bytes .entry)) (now (t .exit)) r ⌝ }
@@ -79,23 +96,23 @@ fn load_all(t: &mut [i32], bytes: &[u8]) -> Answer
             Created::At(k) => from = k,
             Created::Refused(a) => {
                 table::fresh(t);
-                return answered(a.number, n as u64);
+                return stopped(a, n as u64);
             }
         }
         n += 1;
     }
-    done(n as u64)
+    without_cell(done(n as u64))
 }
 
-pub fn load(t: &mut [i32], bytes: &[u8]) -> Answer
+pub fn load(t: &mut [i32], bytes: &[u8]) -> MetAnswer
     ensures { λ r. ⌜ LoadSays (now (t .entry)) (now (bytes .entry)) (now (t .exit)) r ⌝ }
 {
     if table::size_right(t) {
         if bytes.len() % SAVED != 0 {
-            return refused(FILE);
+            return without_cell(refused(FILE));
         }
         load_all(t, bytes)
     } else {
-        refused(SIZE)
+        without_cell(refused(SIZE))
     }
 }

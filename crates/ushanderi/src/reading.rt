@@ -12,6 +12,7 @@ ghost use Rattle.ushanderi.specs.ReadingSides.{SideNumber, SideSays};
 ghost use Rattle.ushanderi.specs.Answers.{foundAnswer, rulerArea};
 use crate::answer::Answer;
 use crate::answer::DONE;
+use crate::answer::MetAnswer;
 use crate::answer::NOTHING;
 use crate::answer::POINT;
 use crate::answer::RECT;
@@ -22,6 +23,8 @@ use crate::answer::UNSOUND;
 use crate::answer::answered;
 use crate::answer::done;
 use crate::answer::refused;
+use crate::answer::with_cell;
+use crate::answer::without_cell;
 use crate::entry::Entry;
 use crate::entry::admit;
 use crate::entry::entry_answer;
@@ -128,8 +131,8 @@ pub(crate) fn area(left: i32, bottom: i32, right: i32, top: i32) -> Area
     }
 }
 
-// The solid at an area's first occupied cell, on a table that passed the checks 1 and 2.
-fn search_in(t: &[i32], area: Area) -> Answer
+// The solid at an area's first occupied cell, and that cell, on a table that passed the checks 1 and 2.
+fn search_in(t: &[i32], area: Area) -> MetAnswer
     requires { ⌜ Fit (now t) ⌝ }
     requires { ⌜ RectRight (areaOf area) ⌝ }
     ensures { λ r. ⌜ SearchSays (now (t .entry)) (areaOf area) r ⌝ }
@@ -137,26 +140,26 @@ fn search_in(t: &[i32], area: Area) -> Answer
     let from = seek::first_used(t);
     let s = seek::search(t, from, area.left, area.bottom, area.right, area.top);
     match s {
-        Seen::Nothing(_) => Answer {
+        Seen::Nothing(_) => without_cell(Answer {
             number: DONE,
             value: NOTHING,
-        },
-        Seen::Solid(i, _, _) => done(i as u64),
+        }),
+        Seen::Solid(i, x, y) => with_cell(done(i as u64), x, y),
     }
 }
 
-pub fn search(t: &[i32], left: i32, bottom: i32, right: i32, top: i32) -> Answer
+pub fn search(t: &[i32], left: i32, bottom: i32, right: i32, top: i32) -> MetAnswer
     ensures { λ r. ⌜ SearchSays (now (t .entry)) (rulerArea left bottom right top) r ⌝ }
 {
     let e = admit(t);
     let Entry::Sound(_) = e else {
-        return entry_answer(e);
+        return without_cell(entry_answer(e));
     };
     let a = area(left, bottom, right, top);
     if seek::rect_right(a) {
         search_in(t, a)
     } else {
-        refused(RECT)
+        without_cell(refused(RECT))
     }
 }
 

@@ -8,7 +8,7 @@
 
 use std::process::ExitCode;
 use ushanderi_host::answers::{self, SAVED_BYTES};
-use ushanderi_host::calls::{self, number, Answer};
+use ushanderi_host::calls::{self, number, Answer, MetAnswer};
 use ushanderi_host::damage::{Damage, WORD_DAMAGES};
 use ushanderi_host::density::bits;
 use ushanderi_host::forged::FORGERIES;
@@ -185,7 +185,8 @@ fn search(lot: &Lot, random: &mut Random) -> Result<i32, String> {
     let area = asks::area(&lot.tiles, random);
     let answer = reading(lot, |table| calls::search(table, area.left, area.bottom, area.right, area.top))?;
     let wanted = plain::search(&lot.table, area.left, area.bottom, area.right, area.top);
-    same(answer, wanted, format!("{area:?}"))
+    agree(answer == wanted, || format!("{area:?}: {answer:?}, the plain program {wanted:?}"))?;
+    Ok(answer.number)
 }
 
 /// Where there are more windows than any list takes, the answer still comes at once.
@@ -217,17 +218,10 @@ fn create(lot: &Lot, random: &mut Random) -> Result<i32, String> {
 
 fn delete(lot: &Lot, random: &mut Random) -> Result<i32, String> {
     let (x, y) = asks::cell(&lot.tiles, random);
-    editing(
-        lot,
-        format!("({x}, {y})"),
-        |server, table| {
-            if server {
-                calls::delete(table, x, y)
-            } else {
-                plain::delete(table, x, y)
-            }
-        },
-    )
+    editing(lot, format!("({x}, {y})"), |server, table| {
+        let answer = if server { calls::delete(table, x, y) } else { plain::delete(table, x, y) };
+        MetAnswer::without_cell(answer)
+    })
 }
 
 fn load(lot: &Lot, random: &mut Random) -> Result<i32, String> {
@@ -248,15 +242,16 @@ fn load(lot: &Lot, random: &mut Random) -> Result<i32, String> {
     Ok(number)
 }
 
-/// The tables after both calls are equal, or sound with the same solids: which records are used is left open.
-fn editing(lot: &Lot, question: String, mut call: impl FnMut(bool, &mut [i32]) -> Answer) -> Result<i32, String> {
+/// The tables after both calls are equal, or sound with the same solids: which records are used is left open, and so is
+/// the value of a create.
+fn editing(lot: &Lot, question: String, mut call: impl FnMut(bool, &mut [i32]) -> MetAnswer) -> Result<i32, String> {
     let mut lent = Lent::new(&lot.table, 7);
     let answer = call(true, lent.for_writing());
     let after = lent.after("the table", 0..lot.table.len())?;
     let mut plainly = lot.table.clone();
     let wanted = call(false, &mut plainly);
     let refused = wanted.number != number::DONE;
-    let same_answer = if refused { answer == wanted } else { answer.number == wanted.number };
+    let same_answer = answer == if refused { wanted } else { MetAnswer { value: answer.value, ..wanted } };
     agree(same_answer, || format!("{question}: {answer:?}, the plain program {wanted:?}"))?;
     let same_table = after == plainly || (!refused && same_picture(after, &plainly));
     agree(same_table, || format!("{question}: another table"))?;

@@ -1,6 +1,6 @@
 //! Create and delete on a sound table: tiles are split, joined and painted, and every cut-off piece is mended at once.
 use super::seek::{self, Seen};
-use crate::calls::{number, Answer};
+use crate::calls::{number, Answer, MetAnswer};
 use crate::rects::Rect;
 use crate::words::*;
 
@@ -45,21 +45,21 @@ impl<'a> Editor<'a> {
     }
 
     /// Adds a solid to a table with so many, unless a rule forbids it. Looks for its place from a tile on.
-    pub fn create_if_allowed(&mut self, from: usize, solids: usize, rect: &Rect, label: i32) -> Answer {
+    pub fn create_if_allowed(&mut self, from: usize, solids: usize, rect: &Rect, label: i32) -> MetAnswer {
         if !rect.keeps_limits() {
-            return Answer::refused(number::RECT);
+            return MetAnswer::refused(number::RECT);
         }
         if label < 1 {
-            return Answer::refused(number::LABEL);
+            return MetAnswer::refused(number::LABEL);
         }
         let last = match seek::search(self.table, from, rect) {
-            Seen::Solid(blocker) => return Answer::with(number::OCCUPIED, blocker),
+            Seen::Solid(blocker, cell) => return MetAnswer::with_cell(Answer::with(number::OCCUPIED, blocker), cell),
             Seen::Nothing(last) => last,
         };
         if solids >= most_solids(self.table.len()) {
-            return Answer::refused(number::FULL);
+            return MetAnswer::refused(number::FULL);
         }
-        Answer::done(self.create(last, rect, label))
+        MetAnswer::without_cell(Answer::done(self.create(last, rect, label)))
     }
 
     /// Adds a solid where the area is free and the table has room: it grows upwards, one strip at a time, so that what is

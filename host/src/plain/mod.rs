@@ -6,7 +6,7 @@ pub mod edit;
 pub mod saved;
 pub mod seek;
 
-use crate::calls::{number, Answer, DensityReport};
+use crate::calls::{number, Answer, DensityReport, MetAnswer};
 use crate::rects::Rect;
 use crate::words::*;
 use seek::{Seen, Walk};
@@ -77,15 +77,15 @@ pub fn neighbours(words: &[i32], x: i32, y: i32, side: i32, list: &mut [i32]) ->
     fill(list, &seek::Along { table, tile, side })
 }
 
-/// The solid that holds the area's first occupied cell; value -1 if the area is free.
-pub fn search(words: &[i32], left: i32, bottom: i32, right: i32, top: i32) -> Answer {
+/// The solid that holds the area's first occupied cell, and that cell; value -1 if the area is free.
+pub fn search(words: &[i32], left: i32, bottom: i32, right: i32, top: i32) -> MetAnswer {
     let area = Rect { left, bottom, right, top };
     match sound_area(words, &area) {
         Ok((table, _)) => match seek::search(table, seek::start(table, NO_TILE), &area) {
-            Seen::Solid(solid) => Answer::done(solid),
-            Seen::Nothing(_) => Answer { number: number::DONE, value: NO_TILE },
+            Seen::Solid(solid, cell) => MetAnswer::with_cell(Answer::done(solid), cell),
+            Seen::Nothing(_) => MetAnswer::without_cell(Answer { number: number::DONE, value: NO_TILE }),
         },
-        Err(refusal) => refusal,
+        Err(refusal) => MetAnswer::without_cell(refusal),
     }
 }
 
@@ -140,12 +140,12 @@ pub fn density(words: &[i32], area: Rect, width: i32, height: i32, shares: &mut 
     }
 }
 
-/// Adds a solid; value: its record.
-pub fn create(words: &mut [i32], left: i32, bottom: i32, right: i32, top: i32, label: i32) -> Answer {
+/// Adds a solid; value: its record. Where one is in the way, what search answers: the record in value, and the cell.
+pub fn create(words: &mut [i32], left: i32, bottom: i32, right: i32, top: i32, label: i32) -> MetAnswer {
     let rect = Rect { left, bottom, right, top };
     let solids = match sound(words) {
         Ok((_, solids)) => solids,
-        Err(refusal) => return refusal,
+        Err(refusal) => return MetAnswer::without_cell(refusal),
     };
     let table = records_mut(words);
     let from = seek::start(table, NO_TILE);
@@ -181,13 +181,14 @@ pub fn save(words: &[i32], bytes: &mut [u8]) -> Answer {
     Answer::done(count)
 }
 
-/// Makes the table the plane of a saved layout; value: the number of its records, or the first refused one's index.
-pub fn load(words: &mut [i32], bytes: &[u8]) -> Answer {
+/// Makes the table the plane of a saved layout; value: the number of its records, or the first refused one's index. No
+/// answer has a cell.
+pub fn load(words: &mut [i32], bytes: &[u8]) -> MetAnswer {
     if !size_is_right(words.len()) {
-        return Answer::refused(number::SIZE);
+        return MetAnswer::refused(number::SIZE);
     }
     if !bytes.len().is_multiple_of(saved::SAVED_BYTES) {
-        return Answer::refused(number::FILE);
+        return MetAnswer::refused(number::FILE);
     }
     saved::read(records_mut(words), bytes)
 }

@@ -1,6 +1,6 @@
 //! Saved layouts: the solids of a table as bytes, and back.
 use super::edit::{wipe_all, Editor};
-use crate::calls::{number, Answer};
+use crate::calls::{number, Answer, MetAnswer};
 use crate::rects::Rect;
 use crate::words::*;
 
@@ -21,8 +21,9 @@ pub fn write(table: &[Record], bytes: &mut [u8]) {
     }
 }
 
-/// Makes the table the plane of the saved solids, or an empty one at the first that is refused.
-pub fn read(table: &mut [Record], bytes: &[u8]) -> Answer {
+/// Makes the table the plane of the saved solids, or an empty one at the first that is refused. No cell is handed on:
+/// the solid that held it is gone.
+pub fn read(table: &mut [Record], bytes: &[u8]) -> MetAnswer {
     wipe_all(table);
     let mut editor = Editor::new(table);
     let mut last = 0;
@@ -32,11 +33,11 @@ pub fn read(table: &mut [Record], bytes: &[u8]) -> Answer {
         let answer = editor.create_if_allowed(last, index, &Rect { left, bottom, right, top }, label);
         if answer.number != number::DONE {
             wipe_all(table);
-            return Answer::with(answer.number, index);
+            return MetAnswer::without_cell(Answer::with(answer.number, index));
         }
         last = answer.value as usize;
     }
-    Answer::done(saved.len())
+    MetAnswer::without_cell(Answer::done(saved.len()))
 }
 
 fn words_of(record: &[u8; SAVED_BYTES]) -> [i32; 5] {

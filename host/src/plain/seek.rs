@@ -62,8 +62,8 @@ fn down_to(table: &[Record], mut at: usize, y: i32) -> usize {
 pub enum Seen {
     /// The area is free; the tile met last holds its lower left cell.
     Nothing(usize),
-    /// The solid that holds the area's first occupied cell.
-    Solid(usize),
+    /// The solid that holds the area's first occupied cell, and that cell.
+    Solid(usize, (i32, i32)),
 }
 
 /// Looks for the area's first occupied cell: down the area's left edge, one strip at a time.
@@ -74,11 +74,11 @@ pub fn search(table: &[Record], from: usize, area: &Rect) -> Seen {
         at = find(table, at, area.left, row);
         let tile = &table[at];
         if tile[KIND] == SOLID {
-            return Seen::Solid(at);
+            return Seen::Solid(at, (area.left, row));
         }
         // The tile's own tr may lie above the area, so the row asked about decides.
         if tile[RIGHT] < area.right {
-            return Seen::Solid(find(table, at, tile[RIGHT], row));
+            return Seen::Solid(find(table, at, tile[RIGHT], row), (tile[RIGHT], row));
         }
         if tile[BOTTOM] <= area.bottom {
             return Seen::Nothing(at);

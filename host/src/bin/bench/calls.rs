@@ -3,7 +3,7 @@ use crate::timing::{consumed, medians, on_copies, repeated, Medians};
 use crate::work::{nth, Work, LAYOUT};
 use crate::Measure;
 use std::hint::black_box;
-use ushanderi_host::calls::{Answer, DensityReport};
+use ushanderi_host::calls::{Answer, DensityReport, MetAnswer};
 use ushanderi_host::rects::{Rect, Solid};
 use ushanderi_host::{answers, calls, plain, rects};
 
@@ -28,10 +28,10 @@ const LABEL: i32 = 1;
 const WINDOW: i32 = 1_000;
 const WINDOWS: usize = 400;
 
-type Search = fn(&[i32], i32, i32, i32, i32) -> Answer;
+type Search = fn(&[i32], i32, i32, i32, i32) -> MetAnswer;
 type Enumerate = fn(&[i32], i32, i32, i32, i32, &mut [i32]) -> Answer;
 type Density = fn(&[i32], Rect, i32, i32, &mut [f64]) -> DensityReport;
-type Create = fn(&mut [i32], i32, i32, i32, i32, i32) -> Answer;
+type Create = fn(&mut [i32], i32, i32, i32, i32, i32) -> MetAnswer;
 
 fn check(work: &Work) -> Medians {
     let table = &work.table;
@@ -176,7 +176,7 @@ fn save(work: &Work) -> Medians {
 }
 
 fn load(work: &Work) -> Medians {
-    let by = |load: fn(&mut [i32], &[u8]) -> Answer| {
+    let by = |load: fn(&mut [i32], &[u8]) -> MetAnswer| {
         let mut table = work.table.clone();
         move |times| repeated(times, |_| consumed(load(black_box(&mut table), black_box(&work.saved))))
     };

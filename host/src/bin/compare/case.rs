@@ -1,7 +1,8 @@
 //! The tables that questions are asked about: sound ones, damaged ones, ones of a wrong size; and what the definition
 //! says of each.
 use crate::{scaled, Report};
-use ushanderi_host::calls::number;
+use ushanderi_host::answers::MetSolid;
+use ushanderi_host::calls::{number, MetAnswer};
 use ushanderi_host::damage::{Damage, WORD_DAMAGES};
 use ushanderi_host::forged::FORGERIES;
 use ushanderi_host::random::Random;
@@ -71,6 +72,12 @@ impl Case {
     /// The tile in the record that an answer names.
     pub fn tile(&self, record: i32) -> Option<Tile> {
         tile_of(&self.table, record)
+    }
+
+    /// Whether the answer names what was met: its solid by the record, and its cell.
+    pub fn names(&self, answer: MetAnswer, met: &MetSolid) -> bool {
+        let MetSolid { solid, cell } = *met;
+        self.tile(answer.value) == Some(Tile::solid(solid.rect, solid.label)) && answer.cell() == cell
     }
 
     pub fn about(&self) -> String {

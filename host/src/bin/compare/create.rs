@@ -1,14 +1,14 @@
-//! Create: any rectangle, any label, on tables of any fill.
+//! Create: any rectangle, any label, on tables of any fill; what is in the way and at which cell.
 use crate::case::{ask_all, tile_of, Case};
 use crate::{edits, Report};
 use ushanderi_host::answers::{self, Refused};
-use ushanderi_host::calls::{self, number, Answer};
+use ushanderi_host::calls::{self, number, MetAnswer, NO_CELL};
 use ushanderi_host::random::Random;
 use ushanderi_host::rects::{Solid, Tile};
 use ushanderi_host::tally::agree;
 use ushanderi_host::{asks, plain};
 
-pub type Create = fn(&mut [i32], i32, i32, i32, i32, i32) -> Answer;
+pub type Create = fn(&mut [i32], i32, i32, i32, i32, i32) -> MetAnswer;
 
 const PROGRAMS: [(&str, Create); 2] = [("the server", calls::create), ("the plain program", plain::create)];
 
@@ -21,31 +21,32 @@ pub fn ask(case: &Case, random: &mut Random) -> Result<i32, String> {
     let mut number = 0;
     for (program, create) in PROGRAMS {
         let told = |message| format!("{program}: create {solid:?}: {message}");
-        let (answer, after) = compare(case, solid, create).map_err(told)?;
-        if answer.number == number::DONE {
+        let (answered, after) = compare(case, solid, create).map_err(told)?;
+        if answered == number::DONE {
             edits::is_sound(&after, case.solids.len() + 1).map_err(told)?;
         }
-        number = answer.number;
+        number = answered;
     }
     Ok(number)
 }
 
-/// Makes the call and compares all but the soundness of what it leaves; the answer and the table after it.
-pub fn compare(case: &Case, solid: Solid, create: Create) -> Result<(Answer, Vec<i32>), String> {
+/// Makes the call and compares all but the soundness of what it leaves; the answer's number and the table after it.
+pub fn compare(case: &Case, solid: Solid, create: Create) -> Result<(i32, Vec<i32>), String> {
     let Solid { rect, label } = solid;
     let (answer, after) =
         edits::edited(&case.table, |table| create(table, rect.left, rect.bottom, rect.right, rect.top, label))?;
     let mut picture = case.solids.clone();
     let wanted = match case.refusal {
-        Some(number) => Err(Refused { number, blocker: None }),
+        Some(number) => Err(Refused { number, met: None }),
         None => answers::create(&mut picture, case.most(), solid),
     };
     let right = match &wanted {
-        Err(Refused { number, blocker: None }) => answer == Answer::refused(*number),
-        Err(Refused { number, blocker: Some(blocker) }) => {
-            answer.number == *number && case.tile(answer.value) == Some(as_tile(*blocker))
+        Err(Refused { number, met: None }) => answer == MetAnswer::refused(*number),
+        Err(Refused { number, met: Some(met) }) => answer.number == *number && case.names(answer, met),
+        Ok(()) => {
+            let names_it = tile_of(&after, answer.value) == Some(Tile::solid(rect, label));
+            answer.number == number::DONE && names_it && answer.cell() == NO_CELL
         }
-        Ok(()) => answer.number == number::DONE && tile_of(&after, answer.value) == Some(as_tile(solid)),
     };
     agree(right, || format!("{answer:?}, wanted {wanted:?}"))?;
     match wanted {
@@ -55,9 +56,5 @@ pub fn compare(case: &Case, solid: Solid, create: Create) -> Result<(Answer, Vec
             edits::unnamed_keep_records(&case.table, &after, None)?;
         }
     }
-    Ok((answer, after))
-}
-
-fn as_tile(solid: Solid) -> Tile {
-    Tile::solid(solid.rect, solid.label)
+    Ok((answer.number, after))
 }

@@ -21,11 +21,11 @@ pub fn ask(case: &Case, random: &mut Random) -> Result<i32, String> {
     let mut number = 0;
     for (program, delete) in PROGRAMS {
         let told = |message| format!("{program}: delete at {cell:?}: {message}");
-        let (answer, after) = compare(case, cell, delete).map_err(told)?;
-        if answer.number == number::DONE {
+        let (answered, after) = compare(case, cell, delete).map_err(told)?;
+        if answered == number::DONE {
             edits::is_sound(&after, case.solids.len() - 1).map_err(told)?;
         }
-        number = answer.number;
+        number = answered;
     }
     Ok(number)
 }
@@ -41,8 +41,8 @@ pub fn cell(solids: &[Solid], tiles: &[Tile], random: &mut Random) -> (i32, i32)
     }
 }
 
-/// Makes the call and compares all but the soundness of what it leaves; the answer and the table after it.
-pub fn compare(case: &Case, cell: (i32, i32), delete: Delete) -> Result<(Answer, Vec<i32>), String> {
+/// Makes the call and compares all but the soundness of what it leaves; the answer's number and the table after it.
+pub fn compare(case: &Case, cell: (i32, i32), delete: Delete) -> Result<(i32, Vec<i32>), String> {
     let (answer, after) = edits::edited(&case.table, |table| delete(table, cell.0, cell.1))?;
     let mut picture = case.solids.clone();
     let wanted = case.answer(|_| answers::delete(&mut picture, cell));
@@ -58,5 +58,5 @@ pub fn compare(case: &Case, cell: (i32, i32), delete: Delete) -> Result<(Answer,
         edits::has_picture(&after, &picture)?;
         edits::unnamed_keep_records(&case.table, &after, removed)?;
     }
-    Ok((answer, after))
+    Ok((answer.number, after))
 }

@@ -8,7 +8,7 @@ use ushanderi_host::tally::agree;
 use ushanderi_host::words::{records, KIND, SOLID};
 
 /// Makes the call on a copy of the table; its answer and the table after it.
-pub fn edited(table: &[i32], call: impl FnOnce(&mut [i32]) -> Answer) -> Result<(Answer, Vec<i32>), String> {
+pub fn edited<T>(table: &[i32], call: impl FnOnce(&mut [i32]) -> T) -> Result<(T, Vec<i32>), String> {
     let mut lent = Lent::new(table, 7);
     let answer = call(lent.for_writing());
     let after = lent.after("the table", 0..table.len())?.to_vec();

@@ -2,7 +2,7 @@
 //! places. They test the rectangle-list program as much as the server.
 use crate::case::tile_of;
 use crate::Report;
-use ushanderi_host::calls::{self, number, Answer};
+use ushanderi_host::calls::{self, number, Answer, MetAnswer};
 use ushanderi_host::layouts::{A, B, C};
 use ushanderi_host::random::Random;
 use ushanderi_host::rects::{stitches, tiles, Rect, Solid, Tile};
@@ -95,6 +95,10 @@ fn told(answer: Answer) -> Told {
     vec![answer.number, answer.value]
 }
 
+fn told_all(MetAnswer { number, value, x, y }: MetAnswer) -> Told {
+    vec![number, value, x, y]
+}
+
 /// Nothing where the record is none, so that an answer that is no record shows as such.
 fn rect_at(table: &[i32], record: i32) -> Told {
     tile_of(table, record).map_or(Vec::new(), |Tile { rect, .. }| vec![rect.left, rect.bottom, rect.right, rect.top])
@@ -102,6 +106,11 @@ fn rect_at(table: &[i32], record: i32) -> Told {
 
 fn rect_of(table: &[i32], answer: Answer) -> Told {
     rect_at(table, answer.value)
+}
+
+/// The number, the rectangle of the solid that is in the way, and the cell where it is met.
+fn blocked(table: &[i32], MetAnswer { number, value, x, y }: MetAnswer) -> Told {
+    [vec![number], rect_at(table, value), vec![x, y]].concat()
 }
 
 fn spaces(table: &[i32]) -> i32 {
@@ -142,10 +151,19 @@ fn beside(x: i32, y: i32, side: i32) -> Told {
 }
 
 const SEARCH: &[Example] = &[
-    ("10 0 20 10: free", || told(calls::search(&abc(), 10, 0, 20, 10)), &[0, NO_TILE]),
-    ("5 0 25 20: C", || rect_of(&abc(), calls::search(&abc(), 5, 0, 25, 20)), &[5, 15, 25, 20]),
-    ("0 0 30 15: A", || rect_of(&abc(), calls::search(&abc(), 0, 0, 30, 15)), &[0, 0, 10, 10]),
+    ("10 0 20 10: free, no cell", || told_all(calls::search(&abc(), 10, 0, 20, 10)), &[0, NO_TILE, 0, 0]),
+    ("5 0 25 20: C at (5, 19)", || searched(5, 0, 25, 20), &[0, 5, 15, 25, 20, 5, 19]),
+    ("0 0 30 15: A at (0, 9)", || searched(0, 0, 30, 15), &[0, 0, 0, 10, 10, 0, 9]),
+    ("8 0 30 17, from inside C: C at (8, 16)", || searched(8, 0, 30, 17), &[0, 5, 15, 25, 20, 8, 16]),
+    ("-3 -3 1 1: A at (0, 0), which is a cell as well", || searched(-3, -3, 1, 1), &[0, 0, 0, 10, 10, 0, 0]),
+    ("9 3 9 4: RECT, no cell", || told_all(calls::search(&abc(), 9, 3, 9, 4)), &[4, 0, 0, 0]),
+    ("190 words: SIZE, no cell", || told_all(calls::search(&[7; 190], 9, 3, 12, 4)), &[1, 0, 0, 0]),
+    ("200 zeros: UNSOUND, no cell", || told_all(calls::search(&[0; 200], 9, 3, 12, 4)), &[2, 0, 0, 0]),
 ];
+
+fn searched(left: i32, bottom: i32, right: i32, top: i32) -> Told {
+    blocked(&abc(), calls::search(&abc(), left, bottom, right, top))
+}
 
 const ENUMERATE: &[Example] = &[
     ("-5 0 35 20", || listed(-5, 0, 35, 20), &[-EDGE, 5, 25, -EDGE, -EDGE, 0, 10, 20, 30]),
@@ -191,16 +209,24 @@ fn every_cell() -> Told {
 }
 
 const CREATE: &[Example] = &[
-    ("9 3 12 4 is OCCUPIED", || vec![calls::create(&mut abc(), 9, 3, 12, 4, 4).number], &[6]),
-    ("9 3 12 4 is OCCUPIED by A", || rect_of(&abc(), calls::create(&mut abc(), 9, 3, 12, 4, 4)), &[0, 0, 10, 10]),
-    ("10 0 20 10: done, 7 space tiles", || created(&mut abc(), 10, 0, 20, 10), &[0, 7]),
-    ("the plane: done, no space tile left", || created(&mut table(&[]), -EDGE, -EDGE, EDGE, EDGE), &[0, 0]),
-    ("3 3 3 4, label 0: RECT", || told(calls::create(&mut abc(), 3, 3, 3, 4, 0)), &[4, 0]),
-    ("overlap in a full table: OCCUPIED", || vec![calls::create(&mut full(), 9, 3, 12, 4, 4).number], &[6]),
+    ("9 3 12 4 is OCCUPIED by A at (9, 3)", || overlaps(abc()), &[6, 0, 0, 10, 10, 9, 3]),
+    ("overlap in a full table: the same", || overlaps(full()), &[6, 0, 0, 10, 10, 9, 3]),
+    ("10 0 20 10: done, no cell, 7 space tiles", || created(&mut abc(), 10, 0, 20, 10), &[0, 0, 0, 7]),
+    ("the plane: done, no space tile left", || created(&mut table(&[]), -EDGE, -EDGE, EDGE, EDGE), &[0, 0, 0, 0]),
+    ("3 3 3 4, label 0: RECT, no cell", || told_all(calls::create(&mut abc(), 3, 3, 3, 4, 0)), &[4, 0, 0, 0]),
+    ("9 3 12 4, label 0: LABEL, no cell", || told_all(calls::create(&mut abc(), 9, 3, 12, 4, 0)), &[5, 0, 0, 0]),
+    ("full table: FULL, no cell", || told_all(calls::create(&mut full(), 10, 0, 20, 10, 4)), &[7, 0, 0, 0]),
 ];
 
+fn overlaps(mut table: Vec<i32>) -> Told {
+    let answer = calls::create(&mut table, 9, 3, 12, 4, 4);
+    blocked(&table, answer)
+}
+
+/// The number and the cell of a create, and the space tiles after it.
 fn created(table: &mut [i32], left: i32, bottom: i32, right: i32, top: i32) -> Told {
-    vec![calls::create(table, left, bottom, right, top, 4).number, spaces(table)]
+    let answer = calls::create(table, left, bottom, right, top, 4);
+    vec![answer.number, answer.x, answer.y, spaces(table)]
 }
 
 const DELETE: &[Example] = &[
@@ -225,13 +251,13 @@ fn one_solid_at_a_time() -> Told {
 
 const SAVE_AND_LOAD: &[Example] = &[
     ("save: highest top first", saved, &[5, 15, 25, 20, 3, 0, 0, 10, 10, 1, 20, 0, 30, 10, 2]),
-    ("no bytes: a fresh plane", || loaded(&[]), &[0, 0, 1]),
-    ("19 bytes: FILE", || told(calls::load(&mut abc(), &[0; 19])), &[11, 0]),
-    ("A: done, 4 space tiles", || loaded(&[A]), &[0, 1, 4]),
-    ("A twice: OCCUPIED, index 1", || loaded(&[A, A]), &[6, 1, 1]),
-    ("A and an empty rectangle: RECT, index 1", || loaded(&[A, at(3, 3, 3, 4, 0)]), &[4, 1, 1]),
-    ("a label of 0: LABEL", || loaded(&[at(3, 3, 4, 4, 0)]), &[5, 0, 1]),
-    ("A and B into 20 records: FULL, index 1", || loaded(&[A, B]), &[7, 1, 1]),
+    ("no bytes: a fresh plane", || loaded(&[]), &[0, 0, 0, 0, 1]),
+    ("19 bytes: FILE", || told_all(calls::load(&mut abc(), &[0; 19])), &[11, 0, 0, 0]),
+    ("A: done, 4 space tiles", || loaded(&[A]), &[0, 1, 0, 0, 4]),
+    ("A twice: OCCUPIED, index 1, no cell", || loaded(&[A, A]), &[6, 1, 0, 0, 1]),
+    ("A and an empty rectangle: RECT, index 1", || loaded(&[A, at(3, 3, 3, 4, 0)]), &[4, 1, 0, 0, 1]),
+    ("a label of 0: LABEL", || loaded(&[at(3, 3, 4, 4, 0)]), &[5, 0, 0, 0, 1]),
+    ("A and B into 20 records: FULL, index 1", || loaded(&[A, B]), &[7, 1, 0, 0, 1]),
 ];
 
 const fn at(left: i32, bottom: i32, right: i32, top: i32, label: i32) -> Solid {
@@ -249,6 +275,6 @@ fn loaded(solids: &[Solid]) -> Told {
     let words = solids.iter().flat_map(|Solid { rect, label }| [rect.left, rect.bottom, rect.right, rect.top, *label]);
     let bytes: Vec<u8> = words.flat_map(i32::to_le_bytes).collect();
     let mut table = vec![3; 200];
-    let answer = calls::load(&mut table, &bytes);
-    vec![answer.number, answer.value, spaces(&table)]
+    let answer = told_all(calls::load(&mut table, &bytes));
+    [answer, vec![spaces(&table)]].concat()
 }

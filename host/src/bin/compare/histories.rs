@@ -155,11 +155,11 @@ fn take_and_compare(seat: &mut Seat, step: &Step, picture: &[Solid], look: bool)
 /// Makes the call on the seat's table and compares what can be compared without a look at the whole table.
 fn take(seat: &mut Seat, step: &Step) -> Result<i32, String> {
     let Seat { editor, case } = seat;
-    let (answer, after) = match step {
+    let (number, after) = match step {
         Step::Create(solid) => create::compare(case, *solid, editor.create)?,
         Step::Delete(cell) => delete::compare(case, *cell, editor.delete)?,
         Step::Load(bytes) => load::compare(&case.table, bytes, editor.load)?,
-        Step::Fresh => edits::edited(&case.table, editor.fresh)?,
+        Step::Fresh => edits::edited(&case.table, |table| (editor.fresh)(table).number)?,
     };
     if let Step::Fresh = step {
         agree(after == fresh_plane(after.len()), || "not a fresh plane".to_string())?;
@@ -168,7 +168,7 @@ fn take(seat: &mut Seat, step: &Step) -> Result<i32, String> {
         let solids = solids_of(&after);
         *case = Case { refusal: None, tiles: tiles(&solids), solids, table: after };
     }
-    Ok(answer.number)
+    Ok(number)
 }
 
 /// What the step does to the list of solids.

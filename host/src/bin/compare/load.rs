@@ -1,8 +1,8 @@
-//! Load: layouts in any order, damaged ones, random bytes, into tables full of other words.
+//! Load: layouts in any order, damaged ones, random bytes, into tables full of other words. No answer has a cell.
 use crate::fresh::fresh_plane;
 use crate::{edits, scaled, Report};
 use ushanderi_host::answers::{self, RefusedLoad, SAVED_BYTES};
-use ushanderi_host::calls::{self, number, Answer};
+use ushanderi_host::calls::{self, number, Answer, MetAnswer};
 use ushanderi_host::lent::Lent;
 use ushanderi_host::random::Random;
 use ushanderi_host::rects::{solids_of, Solid};
@@ -11,7 +11,7 @@ use ushanderi_host::tally::{agree, Tally};
 use ushanderi_host::words::*;
 use ushanderi_host::{asks, plain};
 
-pub type Load = fn(&mut [i32], &[u8]) -> Answer;
+pub type Load = fn(&mut [i32], &[u8]) -> MetAnswer;
 
 const PROGRAMS: [(&str, Load); 2] = [("the server", calls::load), ("the plain program", plain::load)];
 
@@ -75,12 +75,12 @@ fn ask(table: &[i32], bytes: &[u8]) -> Result<i32, String> {
     let mut number = 0;
     for (program, load) in PROGRAMS {
         let told = |message| format!("{program}: {} words, bytes {bytes:?}: {message}", table.len());
-        let (answer, after) = compare(table, bytes, load).map_err(told)?;
-        if answer.number == number::DONE {
+        let (answered, after) = compare(table, bytes, load).map_err(told)?;
+        if answered == number::DONE {
             edits::is_sound(&after, bytes.len() / SAVED_BYTES).map_err(told)?;
             comes_back(&after, load).map_err(told)?;
         }
-        number = answer.number;
+        number = answered;
     }
     Ok(number)
 }
@@ -96,21 +96,21 @@ fn comes_back(table: &[i32], load: Load) -> Result<(), String> {
     edits::has_picture(&again, &solids)
 }
 
-/// Makes the call and compares all but the soundness of what it leaves; the answer and the table after it.
-pub fn compare(table: &[i32], bytes: &[u8], load: Load) -> Result<(Answer, Vec<i32>), String> {
+/// Makes the call and compares all but the soundness of what it leaves; the answer's number and the table after it.
+pub fn compare(table: &[i32], bytes: &[u8], load: Load) -> Result<(i32, Vec<i32>), String> {
     let mut lent = Lent::new(bytes, 0x5a);
     let (answer, after) = edits::edited(table, |table| load(table, lent.for_reading()))?;
     lent.after("load's bytes", 0..0)?;
     if !size_is_right(table.len()) {
-        agree(answer == Answer::refused(number::SIZE), || format!("{answer:?}, wanted SIZE"))?;
+        agree(answer == MetAnswer::refused(number::SIZE), || format!("{answer:?}, wanted SIZE"))?;
         agree(after == table, || "a load refused for SIZE wrote".to_string())?;
-        return Ok((answer, after));
+        return Ok((answer.number, after));
     }
     let wanted = answers::load(bytes, most_solids(table.len() / RECORD_WORDS));
-    let wanted_answer = match &wanted {
+    let wanted_answer = MetAnswer::without_cell(match &wanted {
         Ok(solids) => Answer::done(solids.len()),
         Err(RefusedLoad { number, index }) => Answer::with(*number, *index),
-    };
+    });
     agree(answer == wanted_answer, || format!("{answer:?}, wanted {wanted_answer:?}"))?;
     match wanted {
         Err(RefusedLoad { number: number::FILE, .. }) => {
@@ -119,5 +119,5 @@ pub fn compare(table: &[i32], bytes: &[u8], load: Load) -> Result<(Answer, Vec<i
         Ok(solids) if !solids.is_empty() => edits::has_picture(&after, &solids)?,
         _ => agree(after == fresh_plane(table.len()), || "not a fresh plane".to_string())?,
     }
-    Ok((answer, after))
+    Ok((answer.number, after))
 }

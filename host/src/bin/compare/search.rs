@@ -1,20 +1,18 @@
-//! Area search: any area.
+//! Area search: any area; the solid that is met and the cell, or neither.
 use crate::case::{ask_all, number_of, Case};
-use crate::find::same;
 use crate::Report;
-use ushanderi_host::calls::{self, number, Answer};
+use ushanderi_host::calls::{self, number, MetAnswer};
 use ushanderi_host::lent::Lent;
 use ushanderi_host::random::Random;
-use ushanderi_host::rects::Tile;
 use ushanderi_host::tally::agree;
 use ushanderi_host::words::NO_TILE;
 use ushanderi_host::{answers, asks, plain};
 
-type Search = fn(&[i32], i32, i32, i32, i32) -> Answer;
+type Search = fn(&[i32], i32, i32, i32, i32) -> MetAnswer;
 
 const PROGRAMS: [(&str, Search); 2] = [("the server", calls::search), ("the plain program", plain::search)];
 
-const FREE_AREA: Answer = Answer { number: number::DONE, value: NO_TILE };
+const FREE_AREA: MetAnswer = MetAnswer { number: number::DONE, value: NO_TILE, x: 0, y: 0 };
 
 pub fn run(scale: f64) -> Report {
     ask_all(scale, ask)
@@ -27,10 +25,10 @@ pub fn ask(case: &Case, random: &mut Random) -> Result<i32, String> {
         let mut lent = Lent::new(&case.table, 7);
         let answer = search(lent.for_reading(), area.left, area.bottom, area.right, area.top);
         lent.after("search's table", 0..0)?;
-        let right = match wanted {
+        let right = match &wanted {
             Ok(None) => answer == FREE_AREA,
-            Ok(Some((solid, _))) => same(case, answer, &Ok(Tile::solid(solid.rect, solid.label))),
-            Err(number) => same(case, answer, &Err(number)),
+            Ok(Some(met)) => answer.number == number::DONE && case.names(answer, met),
+            Err(number) => answer == MetAnswer::refused(*number),
         };
         agree(right, || format!("{program}: {area:?}: {answer:?}, wanted {wanted:?}"))?;
     }

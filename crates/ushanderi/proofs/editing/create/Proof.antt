@@ -1,8 +1,9 @@
 -- `ushanderi::editing::create` meets its promise: where the checks refuse, what they say; else what `create_one` gives. Assumes nothing.
-use mathlib.Core.Path.{refl, sym, ap, _∙_, subst}
+use mathlib.Core.Path.{refl, ap, _∙_, subst}
 use denote.Enum.Declared.{tagOf}
 use Rattle.ruler.specs.Ruler.{ruler-bits}
-use Rattle.ushanderi.specs.Promises.{Unfit, CreateRefuses, CreateSays}
+use Rattle.ushanderi.specs.Answers.{withoutCell}
+use Rattle.ushanderi.specs.Promises.{CreateRefuses, CreateSays}
 use Rattle.ushanderi.specs.Entry.{admits-fit, admits-few}
 use Rattle.ushanderi.specs.Reading.{fit-forms, admits-unfit, not-third}
 use Rattle.ushanderi.specs.ReadingAreas.{area-bits}
@@ -21,13 +22,17 @@ enum-known-e c = search needs
 entry-answer-requires : tie.Need-entry-answer-requires
 entry-answer-requires c κs = admits-few _ _ (c .before .admit .ensures)
 
+without-cell-requires : tie.Need-without-cell-requires
+without-cell-requires c κs = search needs
+
 same-length : tie.Need-same-length
 same-length c = search needs
 
 returns : tie.Need-returns
 returns c =
-    let u = admits-unfit _ _ (c .before .before .admit .ensures) (λ n q. not-third (c .before .match .keys2) (ap (tagOf the-type) q)) in
-    CreateSays.refuses (CreateRefuses.unfit (subst (Unfit _) (sym (c .entry-answer .ensures)) u)) refl
+    let a = c .before in
+    let u = admits-unfit _ _ (a .before .before .admit .ensures) (λ n q. not-third (a .before .match .keys2) (ap (tagOf the-type) q)) in
+    CreateSays.refuses (CreateRefuses.unfit _ u (c .without-cell .ensures ∙ ap withoutCell (a .entry-answer .ensures))) refl
 
 first-used-requires : tie.Need-first-used-requires
 first-used-requires c κs =
@@ -56,6 +61,9 @@ done-requires c κs =
     let k = c .before in
     done-low _ _ _ _ _ (subst (CreateEnds _ _ _ _) (k .c .given .1) (k .before .before .before .create-one .ensures))
 
+without-cell-requires-2 : tie.Need-without-cell-requires-2
+without-cell-requires-2 c κs = search needs
+
 enum-known-c-2 : tie.Need-enum-known-c-2
 enum-known-c-2 c = search needs
 
@@ -64,14 +72,15 @@ same-length-2 c = search needs
 
 returns-2 : tie.Need-returns-2
 returns-2 c =
-    let k = c .before .before in
+    let k = c .before .before .before in
     let o = k .before .before .before in
     let l = o .before in
     let a = l .before in
     let s = a .before .before .before .before .before .before .before .before .before in
     let e = a .area .ensures ∙ area-bits _ _ _ _ (s .fits .left) (s .fits .bottom) (s .fits .right) (s .fits .top) in
     create-same e (l .at .ensures .is ∙ ruler-bits (s .args .label) (s .fits .label))
-    (CreateSays.done _ (subst (CreateEnds _ _ _ _) (k .c .given .1) (o .create-one .ensures)) (c .done .ensures))
+    (CreateSays.done _ (subst (CreateEnds _ _ _ _) (k .c .given .1) (o .create-one .ensures))
+    (c .without-cell2 .ensures ∙ ap withoutCell (c .before .done .ensures)))
 
 same-length-3 : tie.Need-same-length-3
 same-length-3 c = search needs
@@ -94,6 +103,7 @@ create-spec =
     admit-requires
     enum-known-e
     entry-answer-requires
+    without-cell-requires
     same-length
     returns
     first-used-requires
@@ -102,6 +112,7 @@ create-spec =
     create-one-requires
     enum-known-c
     done-requires
+    without-cell-requires-2
     enum-known-c-2
     same-length-2
     returns-2

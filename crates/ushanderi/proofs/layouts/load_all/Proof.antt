@@ -4,6 +4,7 @@ use Prim.Native.Nat.{_-_, _≤_}
 use native.Mathlib.Omega.{arith}
 use lib.ListN.{length}
 use Rattle.table.specs.Fresh.{freshTable}
+use Rattle.ushanderi.specs.Answers.{withoutCell}
 use Rattle.ushanderi.specs.Promises.{LoadSays}
 use Rattle.ushanderi.specs.Editing.{CreateEnds}
 use Rattle.ushanderi.specs.Layouts.{Loading, fresh-long, loading-none, loading-more, loading-low, load-done, load-stopped}
@@ -43,15 +44,15 @@ fresh-requires-2 c κs =
     let (_, w) = subst (CreateEnds _ _ _ _) (k .c2 .given .1) (o .load-one .ensures) in
     omega (arith, o .before .before .before .loop .inv .0 .fit .size .least, ap length w)
 
-answered-requires : tie.Need-answered-requires Inv-loop μ-loop
-answered-requires c κs = loading-low _ _ _ _ _ (c .before .before .before .before .before .before .before .before .before .before .before .loop .inv .0)
+stopped-requires : tie.Need-stopped-requires Inv-loop μ-loop
+stopped-requires c κs = loading-low _ _ _ _ _ (c .before .before .before .before .before .before .before .before .before .before .loop .inv .0)
 
 same-length : tie.Need-same-length Inv-loop μ-loop
 same-length c = search needs
 
 returns : tie.Need-returns Inv-loop μ-loop
 returns c =
-    let f = c .before .before .before in
+    let f = c .before .before in
     let k = f .before .before .before in
     let o = k .before .before .before in
     let a = o .before .before .before in
@@ -60,7 +61,7 @@ returns c =
     let long = fresh-long (s .args .t .now) _ (s .pre .0) (g .fresh .ensures) in
     let (r, w) = subst (CreateEnds _ _ _ _) (k .c2 .given .1) (o .load-one .ensures) in
     load-stopped _ _ _ _ _ (a .loop .inv .0) _ _ _ _ (s .pre .0) (s .pre .1) long (omega (arith, o .before .before .loop-test)) r
-    (f .fresh2 .ensures ∙ ap (λ t. freshTable (length t)) w) (c .answered .ensures)
+    (f .fresh2 .ensures ∙ ap (λ t. freshTable (length t)) w) (c .stopped .ensures)
 
 add-n : tie.Need-add-n Inv-loop μ-loop
 add-n c =
@@ -80,16 +81,20 @@ loop-again c =
 done-requires : tie.Need-done-requires Inv-loop μ-loop
 done-requires c κs = loading-low _ _ _ _ _ (c .before .loop .inv .0)
 
+without-cell-requires : tie.Need-without-cell-requires Inv-loop μ-loop
+without-cell-requires c κs = search needs
+
 same-length-2 : tie.Need-same-length-2 Inv-loop μ-loop
 same-length-2 c = search needs
 
 returns-2 : tie.Need-returns-2 Inv-loop μ-loop
 returns-2 c =
-    let a = c .before .before in
+    let a = c .before .before .before in
     let g = a .before .before in
     let s = g .before .before .before in
     let long = fresh-long (s .args .t .now) _ (s .pre .0) (g .fresh .ensures) in
-    subst (LoadSays _ _ _) (sym (c .done .ensures)) (load-done _ _ _ _ _ (a .loop .inv .0) _ (s .pre .0) (s .pre .1) long (omega (arith, a .loop .inv .1)))
+    let e = c .without-cell .ensures ∙ ap withoutCell (c .before .done .ensures) in
+    subst (LoadSays _ _ _) (sym e) (load-done _ _ _ _ _ (a .loop .inv .0) _ (s .pre .0) (s .pre .1) long (omega (arith, a .loop .inv .1)))
 
 pub load-all-spec : {M : Type 1} → statement M
 load-all-spec =
@@ -103,12 +108,13 @@ load-all-spec =
     enum-known-c
     enum-known-c-2
     fresh-requires-2
-    answered-requires
+    stopped-requires
     same-length
     returns
     add-n
     loop-less
     loop-again
     done-requires
+    without-cell-requires
     same-length-2
     returns-2)

@@ -53,11 +53,21 @@ impl Dots {
         (self.x + self.width / 2.0, self.y + self.height / 2.0)
     }
 
+    /// What digits of this size take in the middle of the rectangle.
+    pub fn of_digits(&self, size: f64, digits: &str) -> Dots {
+        Dots::around(self.middle(), (0.65 * size * digits.len() as f64, size))
+    }
+
     pub fn shorter_side(&self) -> f64 {
         self.width.min(self.height)
     }
 
-    pub fn meets(&self, other: &Dots) -> bool {
+    /// Whether it meets none of these.
+    pub fn keeps_off(&self, taken: &[Dots]) -> bool {
+        taken.iter().all(|other| !self.meets(other))
+    }
+
+    fn meets(&self, other: &Dots) -> bool {
         self.x < other.x + other.width
             && other.x < self.x + self.width
             && self.y < other.y + other.height
@@ -130,8 +140,8 @@ impl Canvas {
         ));
     }
 
-    pub fn knot(&mut self, (x, y): (f64, f64)) {
-        self.add(format_args!("<circle class=\"knot\" cx=\"{x:.2}\" cy=\"{y:.2}\" r=\"2.4\"/>"));
+    pub fn circle(&mut self, (x, y): (f64, f64), radius: f64, class: &str) {
+        self.add(format_args!("<circle class=\"{class}\" cx=\"{x:.2}\" cy=\"{y:.2}\" r=\"{radius:.1}\"/>"));
     }
 
     pub fn line(&mut self, (x1, y1): (f64, f64), (x2, y2): (f64, f64), class: &str) {

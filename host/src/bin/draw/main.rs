@@ -1,10 +1,12 @@
 //! Draws a saved layout as an SVG picture on standard output.
 //!
-//! `draw [FILE] [--stitches] [--area L B R T] [--density W H] [--view L B R T]` reads standard input where no file is
-//! named. Solids are coloured by their labels, space strips are faint. `--stitches` adds the stitches as small arrows,
-//! `--area` marks an area and numbers its tiles in directed order, `--density` shades the area's windows of this width
-//! and height by how much of them is metal instead, and where no area is named takes windows around all solids. `--view`
-//! says what part of the plane is shown: otherwise the area, or all solids.
+//! `draw [FILE] [--stitches] [--area L B R T] [--density W H] [--search L B R T] [--view L B R T]` reads standard
+//! input where no file is named. Solids are coloured by their labels, space strips are faint. `--stitches` adds the
+//! stitches as small arrows, `--area` marks an area and numbers its tiles in directed order, `--density` shades the
+//! area's windows of this width and height by how much of them is metal instead, and where no area is named takes
+//! windows around all solids. `--search` marks an area that is searched and, where it is blocked, the cell and the
+//! solid that are met; it goes with all others. `--view` says what part of the plane is shown: otherwise the area and
+//! the searched one, or all solids.
 #![forbid(unsafe_code)]
 
 mod canvas;
@@ -12,6 +14,7 @@ mod colours;
 mod numbers;
 mod options;
 mod picture;
+mod search;
 mod stitches;
 mod windows;
 

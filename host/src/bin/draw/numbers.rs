@@ -22,7 +22,7 @@ pub fn add(canvas: &mut Canvas, plane: &Plane, area: &Rect, mut taken: Vec<Dots>
     for (number, dots) in parts {
         let digits = number.to_string();
         let size = (dots.shorter_side() * 0.6).clamp(SIZES.0, SIZES.1);
-        let place = places(&dots, box_of(&digits, size)).find(|place| taken.iter().all(|other| !place.meets(other)));
+        let place = places(&dots, box_of(&digits, size)).find(|place| place.keeps_off(&taken));
         match place.filter(|_| dots.shorter_side() >= LEAST_SIDE) {
             Some(place) => {
                 canvas.rounded(place, place.height / 2.0, "number");

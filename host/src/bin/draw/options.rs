@@ -3,7 +3,8 @@ use std::fs;
 use std::io::{self, Read};
 use ushanderi_host::Rect;
 
-const USAGE: &str = "usage: draw [FILE] [--stitches] [--area L B R T] [--density W H] [--view L B R T]";
+const USAGE: &str =
+    "usage: draw [FILE] [--stitches] [--area L B R T] [--density W H] [--search L B R T] [--view L B R T]";
 
 #[derive(Default)]
 pub struct Options {
@@ -12,6 +13,8 @@ pub struct Options {
     pub area: Option<Rect>,
     /// The width and height of the windows to shade.
     pub density: Option<(i32, i32)>,
+    /// The area to search.
+    pub search: Option<Rect>,
     pub view: Option<Rect>,
 }
 
@@ -23,6 +26,7 @@ impl Options {
                 "--stitches" => options.stitches = true,
                 "--area" => options.area = Some(rect(&mut arguments)?),
                 "--density" => options.density = Some(window(&mut arguments)?),
+                "--search" => options.search = Some(rect(&mut arguments)?),
                 "--view" => options.view = Some(rect(&mut arguments)?),
                 flag if flag.starts_with("--") => return Err(format!("{flag} is not known\n{USAGE}")),
                 _ if options.file.is_some() => return Err(format!("one file at most\n{USAGE}")),

@@ -4,6 +4,8 @@ use ushanderi_host::{Plane, Tile};
 
 /// How far an arrow reaches over the side of its tile, in dots; it begins half as far inside.
 const REACH: f64 = 15.0;
+/// The radius of the dot where an arrow begins.
+const KNOT: f64 = 2.4;
 /// A tile whose shorter side has fewer dots has no room for arrows.
 const LEAST_SIDE: f64 = 15.0;
 
@@ -44,7 +46,7 @@ impl Arrows {
     fn add_arrow(&mut self, canvas: &mut Canvas, from: (f64, f64), to: (f64, f64)) {
         canvas.line(from, to, "halo");
         canvas.line(from, to, "stitch");
-        canvas.knot(from);
+        canvas.circle(from, KNOT, "knot");
         let middle = ((from.0 + to.0) / 2.0, (from.1 + to.1) / 2.0);
         let thick = 6.0;
         self.taken.push(Dots::around(middle, ((to.0 - from.0).abs() + thick, (to.1 - from.1).abs() + thick)));

@@ -28,8 +28,8 @@ impl Windows {
         Ok(Windows { area, width, height, densities: plane.density(area, width, height)? })
     }
 
-    /// Adds them with the outlines of the solids, and tells how many had no room.
-    pub fn add(&self, canvas: &mut Canvas, tiles: &[(usize, Tile)]) -> usize {
+    /// Adds them with the outlines of the solids, and tells how many had no room. Digits keep off what is taken.
+    pub fn add(&self, canvas: &mut Canvas, tiles: &[(usize, Tile)], taken: &[Dots]) -> usize {
         let windows = self.area.windows(self.width, self.height).into_iter().flatten();
         let seen = windows
             .zip(self.densities.windows())
@@ -42,7 +42,7 @@ impl Windows {
         for part in solids.filter_map(|(_, tile)| tile.rect.common(&self.area)) {
             canvas.dots(&part).into_iter().for_each(|dots| canvas.rect(dots, "outline"));
         }
-        shown.into_iter().for_each(|(dots, density)| add_digits(canvas, dots, density));
+        shown.into_iter().for_each(|(dots, density)| add_digits(canvas, dots, density, taken));
         canvas.dots(&self.area).into_iter().for_each(|dots| canvas.rect(dots, "area frame"));
         left_out.len()
     }
@@ -66,11 +66,11 @@ impl Windows {
     }
 }
 
-fn add_digits(canvas: &mut Canvas, dots: Dots, density: Density) {
+fn add_digits(canvas: &mut Canvas, dots: Dots, density: Density, taken: &[Dots]) {
     let percent = percent(density);
     let digits = percent.to_string();
     let size = (dots.shorter_side() * 0.4).min(SIZES.1).min(dots.width / (0.7 * digits.len() as f64));
-    if density != Density::Bare && size >= SIZES.0 {
+    if density != Density::Bare && size >= SIZES.0 && dots.of_digits(size, &digits).keeps_off(taken) {
         canvas.digits(dots, size, &format!("on_shade{percent}"), &digits);
     }
 }

@@ -1,6 +1,6 @@
 -- Two answers that create's promise allows agree, but for the records of new solids and of space tiles; and creates on two tables of one picture
 -- go alike. Assumes nothing.
-use mathlib.Core.Path.{_≡_, refl, sym, ap, _∙_, subst}
+use mathlib.Core.Path.{_≡_, sym, ap, _∙_, subst}
 use mathlib.Core.Logic.{_≢_}
 use mathlib.Core.List.{List}
 use Prim.Native.Nat.{ℕ, _/_, _≤_}

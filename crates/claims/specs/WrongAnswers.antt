@@ -39,7 +39,7 @@ use Rattle.ushanderi.specs.declared.answer.Answer.{Answer}
 use Rattle.ushanderi.specs.declared.answer.MetAnswer.{MetAnswer}
 use Rattle.ushanderi.specs.declared.reports.DensityAnswer.{DensityAnswer}
 use Rattle.ushanderi.specs.Edits.{labelIn}
-use Rattle.ushanderi.specs.Promises.{Unfit, Fit, FreshSays, CheckSays, ViewSays, FindSays, listed, NeighboursSays, SearchSays, EnumerateSays, DensitySays, CreateRefuses, CreateSays, DeleteSays, SaveSays, LoadStops, LoadSays}
+use Rattle.ushanderi.specs.Promises.{Unfit, Fit, FreshSays, CheckSays, ViewSays, FindSays, listed, NeighboursSays, EnumerateSays, DensitySays, CreateRefuses, CreateSays, DeleteSays, SaveSays, LoadStops, LoadSays}
 use Rattle.claims.specs.AgreeChecks.{fit-forms, number-is, met-number, number-one, not-done, unfit-not-done}
 use Rattle.claims.specs.AgreeReads.{neighbours-agrees}
 use Rattle.claims.specs.AgreeReports.{density-agrees, report-number, density-done}
@@ -47,8 +47,8 @@ use Rattle.claims.specs.AgreeCreate.{edited-fit, create-done, create-agr
 use Rattle.claims.specs.AgreeDelete.{delete-done}
 use Rattle.claims.specs.Allowed.{deletes}
 use Rattle.claims.specs.Density.{entry, entry-share}
-use Rattle.claims.specs.Shams.{Refuses, negative}
-use Rattle.claims.specs.Terms.{Keeps, Shares, Stop}
+use Rattle.claims.specs.Shams.{Refuses}
+use Rattle.claims.specs.Terms.{Keeps, Stop}
 
 same-value : {m n i j : ℕ} → answered m i ≡ answered n j → i ≡ j
 same-value {i = i} {j = j} e = let z : pos i ≡ pos j = ap (λ a. a .value) e in cc

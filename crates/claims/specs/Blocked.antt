@@ -1,21 +1,23 @@
 -- 02's #102, where a call is blocked: what the cell of an answer is, and which answers carry 0 and 0, as follows from the promises. So none of them
 -- allows the solid's own corner in place of the cell, or a refusal, an accepted create or a load that names one. Assumes nothing.
 use mathlib.Core.Path.{_≡_, refl, sym, ap, _∙_, subst₂}
-use mathlib.Core.Logic.{_≢_}
+use mathlib.Core.Logic.{_≢_, _⊎_, ⊎-elim}
 use mathlib.Core.List.{List}
 use Prim.Native.Nat.{ℕ, suc, _<_}
 use native.Mathlib.Omega.{arith}
 use lib.IntN.{ℤ, pos, negsuc}
+use lib.ListN.{length}
 use Rattle.ruler.specs.Ruler.{ruler, ruler-word}
 use Rattle.table.specs.Words.{LEFT, TOP, num}
 use Rattle.seek.specs.Meaning.{Area, RectRight, First}
 use Rattle.ushanderi.specs.Answers.{DONE, OCCUPIED, answered, accepted, withCell, withoutCell}
 use Rattle.ushanderi.specs.declared.answer.Answer.{Answer}
 use Rattle.ushanderi.specs.declared.answer.MetAnswer.{MetAnswer}
-use Rattle.ushanderi.specs.Promises.{Unfit, SearchSays, CreateRefuses, CreateSays, LoadStops, LoadSays}
+use Rattle.ushanderi.specs.Promises.{Unfit, Fit, SearchSays, CreateRefuses, CreateSays, LoadStops, LoadSays}
 use Rattle.claims.specs.AgreeChecks.{met-number, one-cell, number-one, not-done, unfit-not-done}
 use Rattle.claims.specs.AgreeReads.{search-agrees}
-use Rattle.claims.specs.Terms.{OneCell}
+use Rattle.claims.specs.AgreeCreate.{create-alike}
+use Rattle.claims.specs.Terms.{SamePicture, OneCell}
 use Rattle.claims.specs.Shams.{negative}
 
 -- ---- the cell
@@ -64,6 +66,12 @@ pub create-hands-on : (t : List ℤ) (R : Area) (label : ℕ) (t′ : List ℤ) 
 create-hands-on t R label t′ a (CreateSays.refuses o w) h = hands-on t R label a o h
 create-hands-on t R label t′ a (CreateSays.done k d e) h = absurd (omega (arith, number-one (met-number e) h))
 
+-- the cell is the picture's, whatever the records
+pub picture-cell : (u v : List ℤ) (R : Area) (label : ℕ) (u′ v′ : List ℤ) (a b : MetAnswer) → Fit u → Fit v → length u ≡ length v → SamePicture u v
+    → CreateSays u R label u′ a → CreateSays v R label v′ b → OneCell a b
+picture-cell u v R label u′ v′ a b f g l p r s =
+    create-alike u v R label u′ v′ a b (record { left = f; right = g; size = l; picture = p }) r s .cell
+
 module _ (t : List ℤ) (R : Area) (a : MetAnswer) (n : Blocks t R a) where
   -- the solid's own corner in place of the cell: its left edge where it begins left of the area, its highest row where it reaches over the area
   pub not-its-left : num t (n .at) LEFT < R .left → ruler (a .x) ≢ num t (n .at) LEFT
@@ -81,17 +89,11 @@ bare : {a : MetAnswer} {b : Answer} → a ≡ withoutCell b → NoCell a
 bare e = (ap (λ a. a .x) e, ap (λ a. a .y) e)
 
 -- a refused search, and one that finds nothing
-pub search-refused : (t : List ℤ) (R : Area) (a : MetAnswer) → SearchSays t R a → a .number ≢ pos DONE → NoCell a
-search-refused t R a (SearchSays.unfit b u e) n = bare e
-search-refused t R a (SearchSays.rect f m e) n = bare e
-search-refused t R a (SearchSays.free f r h e) n = bare e
-search-refused t R a (SearchSays.met f r x y i h e) n = absurd (n (met-number e))
-
-pub search-free : (t : List ℤ) (R : Area) (a : MetAnswer) → SearchSays t R a → a .value ≡ negsuc 0 → NoCell a
-search-free t R a (SearchSays.unfit b u e) v = bare e
-search-free t R a (SearchSays.rect f m e) v = bare e
-search-free t R a (SearchSays.free f r h e) v = bare e
-search-free t R a (SearchSays.met f r x y i h e) v = absurd (negative i (sym v ∙ ap (λ a. a .value) e))
+pub search-bare : (t : List ℤ) (R : Area) (a : MetAnswer) → SearchSays t R a → (a .number ≢ pos DONE) ⊎ (a .value ≡ negsuc 0) → NoCell a
+search-bare t R a (SearchSays.unfit b u e) n = bare e
+search-bare t R a (SearchSays.rect f m e) n = bare e
+search-bare t R a (SearchSays.free f r h e) n = bare e
+search-bare t R a (SearchSays.met f r x y i h e) n = absurd (⊎-elim (λ k. k (met-number e)) (λ v. negative i (sym v ∙ ap (λ a. a .value) e)) n)
 
 -- a create that is done, or refused for anything but what is in the way
 pub create-bare : (t : List ℤ) (R : Area) (label : ℕ) (t′ : List ℤ) (a : MetAnswer) → CreateSays t R label t′ a → a .number ≢ pos OCCUPIED → NoCell a

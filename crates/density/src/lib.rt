@@ -1,4 +1,6 @@
 // The density report: how much of each window of an area is metal.
+#![tactic(auto)]
+
 mod counts;
 mod numbers;
 mod reporting;

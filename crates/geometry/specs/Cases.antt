@@ -9,15 +9,15 @@ pub lt_cases : {C : Type 0} (a b : ℕ) → (a < b → C) → (b ≤ a → C) �
 lt_cases {C} a b f g = go (dec_lt a b)
   where
     go : Dec (a < b) → C
-    go (yes h) = f h
-    go (no n) = g (omega arith)
+    go (Prim.yes h) = f h
+    go (Prim.no n) = g (omega arith)
 
 pub eq_cases : {C : Type 0} (a b : ℕ) → (a ≡ b → C) → (a ≢ b → C) → C
 eq_cases {C} a b f g = go (ℕ_discrete a b)
   where
     go : Dec (a ≡ b) → C
-    go (yes h) = f h
-    go (no n) = g n
+    go (Prim.yes h) = f h
+    go (Prim.no n) = g n
 
 pub below_suc : {C : Type 0} (i n : ℕ) → i < suc n → (i < n → C) → (i ≡ n → C) → C
 below_suc i n h f g = lt_cases i n f (λ k. g (omega arith))
@@ -26,12 +26,15 @@ below_suc i n h f g = lt_cases i n f (λ k. g (omega arith))
 
 pub T_and : (a c : Bool) → T a → T c → T (a && c)
 T_and true c t u = u
+T_and false c t u = elim t [ ]
 
 pub and_l : (a c : Bool) → T (a && c) → T a
 and_l true c t = tt
+and_l false c t = elim t [ ]
 
 pub and_r : (a c : Bool) → T (a && c) → T c
 and_r true c t = t
+and_r false c t = elim t [ ]
 
 pub T_of : (a : Bool) → (T (not a) → ⊥) → T a
 T_of true f = tt
@@ -43,6 +46,7 @@ T_cases false f g = g tt
 
 pub only_T : (b : Bool) {n : ℕ} → T b → only b n ≡ n
 only_T true t = refl
+only_T false {n = n} t = elim t [ ]
 
 pub T_only : (b : Bool) (n : ℕ) → 1 ≤ only b n → T b
 T_only true n h = tt

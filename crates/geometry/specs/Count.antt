@@ -46,6 +46,8 @@ count_but q s n h t = sum_strict n (λ k h. less (q k) (not (eqb k s))) s h (str
 
     strict : (b c : Bool) → T b → T c → only (b && not c) 1 < only b 1
     strict true true t u = omega arith
+    strict false c t u = elim t [ ]
+    strict true false t u = elim u [ ]
 
 -- Where each i below R that passes p has a code s below m that passes q, and no two have the same code, those i are at most as many as those s.
 -- The code is a relation, so that it need not be named where p fails.

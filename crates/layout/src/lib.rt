@@ -1,4 +1,6 @@
 // Saved layouts: a table's solids as bytes, and back.
+#![tactic(auto)]
+
 mod bytes;
 mod saving;
 

@@ -1,4 +1,6 @@
 // The lister: a saved layout on standard input, the tiles of its plane on standard output, one a line.
+#![tactic(auto)]
+
 mod input;
 mod listing;
 mod text;

@@ -1,4 +1,6 @@
 // The ruler: a word, an i32, as the natural number that is 2^31 more.
+#![tactic(auto)]
+
 ghost use Rattle.std.specs.Prelude.{◌≡◌, ◌<◌, ◌^◌, pos};
 ghost use Rattle.ruler.specs.Ruler.{AtIs, bits, length_of, ruler, word};
 

@@ -1,5 +1,7 @@
 // Looking things up on a table that is known to be sound: the tile at a cell, a tile's neighbours, the first solid of an area, its tiles in the
 // directed order, and its tiles in no special order.
+#![tactic(auto)]
+
 mod area;
 mod cell;
 mod directed;

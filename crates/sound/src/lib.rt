@@ -1,4 +1,6 @@
 // The soundness check, exact, and linear on a sound table: no record is held against every other.
+#![tactic(auto)]
+
 ghost use Rattle.std.specs.Prelude.{◌↔◌, T};
 ghost use Rattle.table.specs.Sound.{SizeRight};
 ghost use Rattle.sound.specs.Links.{Ready};

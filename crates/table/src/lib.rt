@@ -1,4 +1,6 @@
 // The lent words as numbered tiles: the only crate that knows where a record's words lie.
+#![tactic(auto)]
+
 ghost use Rattle.std.specs.Prelude.{◌≡◌, ◌↔◌, ◌+◌, ◌*◌, ◌≤◌, ◌<◌, ◌^◌, T, pos, ◌++◌, length, drop, replicate};
 ghost use Rattle.geometry.specs.Picture.{InPlane};
 ghost use Rattle.table.specs.Fresh.{whole_plane, fresh_table};

@@ -1,4 +1,6 @@
 // The server: the calls that a host makes. Every table and every number is answered, and no call asks for anything beforehand.
+#![tactic(auto)]
+
 pub mod answer;
 pub mod editing;
 mod entry;

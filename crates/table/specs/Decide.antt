@@ -34,9 +34,11 @@ below_all p (suc n) f = T_and (p n) (all_below p n) (f n (omega arith)) (below_a
 
 then_T : (a b c : Bool) → T (cond a b c) → T a → T b
 then_T true b c t u = t
+then_T false b c t u = elim u [ ]
 
 else_T : (a b c : Bool) → T (cond a b c) → T (not a) → T c
 else_T false b c t u = t
+else_T true b c t u = elim u [ ]
 
 T_cond : (a b c : Bool) → (T a → T b) → (T (not a) → T c) → T (cond a b c)
 T_cond true b c f g = f tt

@@ -24,8 +24,8 @@ Slice = Bor (List ℤ)
 
 -- the part of a lent slice that is its `len` words from `at` on, four bytes to a word
 pub record IsPart (s : Slice) (at len : ℕ) (part : Slice) : Type 0 where
-  pub block : part.ptr.0 ≡ s.ptr.0
-  pub byte : part.ptr.1 ≡ s.ptr.1 + 4 * at
+  pub block : part.ref_ptr.0 ≡ s.ref_ptr.0
+  pub byte : part.ref_ptr.1 ≡ s.ref_ptr.1 + 4 * at
   pub words : part.now ≡ take len (drop at s.now)
 
 -- no record is numbered by a word below 0, by one past the records, or where the size is wrong

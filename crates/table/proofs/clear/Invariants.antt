@@ -1,0 +1,15 @@
+use mathlib.Core.Path.{◌≡◌, refl, ap, ◌∙◌}
+use mathlib.Core.List.{◌++◌, append-nil}
+use Prim.Native.Nat.{◌≤◌, ◌<◌, ◌-◌}
+use native.Mathlib.Omega.{arith}
+use lib.IntN.{pos}
+use lib.ListN.{length, drop, replicate}
+use lib.Seq.{drop-length}
+use Rattle.table.proofs.Laws.{fill_more}
+use Rattle.table.proofs.clear.Given as goal
+
+abbrev pub invariant-loop-i : goal.invariant-loop-i
+invariant-loop-i l = (l.i ≤ length l.initial.t) × (length l.t ≡ length l.initial.t) × (l.t ≡ replicate l.i (pos 0) ++ drop l.i l.initial.t)
+
+abbrev pub decreases-loop-i : goal.decreases-loop-i
+decreases-loop-i l = length l.initial.t - l.i

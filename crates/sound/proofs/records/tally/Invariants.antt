@@ -1,0 +1,13 @@
+-- `sound::records::tally` meets its contract. The loop's invariant: each record passed was found right, and the sums are those over them. Assumes nothing.
+use mathlib.Core.Path.{subst}
+use Prim.Native.Nat.{◌≤◌, ◌-◌}
+use native.Mathlib.Omega.{arith}
+use Rattle.sound.specs.Links.{Tested}
+use Rattle.sound.specs.Tally.{Summed, summed_none, summed_more, summed_all}
+use Rattle.sound.proofs.records.tally.Given as goal
+
+abbrev pub invariant-loop-i : goal.invariant-loop-i
+invariant-loop-i l = (l.i ≤ l.n) × Summed l.t l.i l.area l.solids
+
+abbrev pub decreases-loop-i : goal.decreases-loop-i
+decreases-loop-i l = l.n - l.i

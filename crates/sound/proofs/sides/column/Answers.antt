@@ -1,0 +1,37 @@
+-- `sound::sides::column` meets its contract. The loop's invariant is `Walked`; the walk ends because bottom falls. Assumes nothing.
+use native.Mathlib.Omega.{arith}
+use Rattle.table.specs.Words.{BOTTOM, num}
+use Rattle.geometry.specs.Cases.{yes, no}
+use Rattle.sound.specs.Columns.{Walked, walk_start, walk_on, falls, walk_ends, walk_stops}
+use Rattle.sound.proofs.sides.column.Goals as goal
+
+pub loop-at-init : goal.loop-at-init
+loop-at-init c = walk_start _ _ _ _ _ c.requires.1.0
+
+pub fits-requires : goal.fits-requires
+fits-requires c = c.loop-at.invariant.used.below
+
+pub under_word-requires : goal.under_word-requires
+under_word-requires c =
+    let b = c.loop-at.invariant.used.below in
+    (omega arith, c.requires.1.1.1)
+
+pub follow-at-requires : goal.follow-at-requires
+follow-at-requires c = let b = c.loop-at.invariant.used.below in omega arith
+
+pub loop-at-smaller : goal.loop-at-smaller
+loop-at-smaller c =
+    falls _ _ _ _ c.requires.0 c.loop-at.invariant.used c.requires.1.1.0 (yes c.under_word.ensures c.if-under_word.true) c.follow-at.ensures
+
+pub loop-at-preserved : goal.loop-at-preserved
+loop-at-preserved c =
+    walk_on _ _ _ _ _ _ _ c.requires.0 c.loop-at.invariant (yes c.fits.ensures c.loop-at-test.true) c.requires.1.1.0
+    (yes c.under_word.ensures c.if-under_word.true) c.follow-at.ensures
+
+pub returns-else-under_word : goal.returns-else-under_word
+returns-else-under_word c =
+    let n = no c.under_word.ensures c.if-under_word.false in
+    walk_ends _ _ _ _ _ _ c.requires.0 c.loop-at.invariant (yes c.fits.ensures c.loop-at-test.true) (omega arith)
+
+pub returns : goal.returns
+returns c = walk_stops _ _ _ _ _ _ c.loop-at.invariant (no c.fits.ensures c.loop-at-test.false)

@@ -3,7 +3,7 @@ ghost use Rattle.std.specs.Prelude.{◌≡◌, ◌≤◌, ◌^◌};
 ghost use Rattle.density.specs.Shares.{quotient, density_of, share_of};
 
 // How much of one window is metal.
-#[derive(Drop)]
+#[derive(Clone, Copy)]
 pub enum Density {
     Bare,
     Filled,

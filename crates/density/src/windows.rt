@@ -8,7 +8,7 @@ use crate::numbers::product;
 use seek::Area;
 
 // The lowest and the highest share of a window, and how many cells are covered in all.
-#[derive(Drop)]
+#[derive(Clone, Copy)]
 pub struct Report {
     pub lowest: f64,
     pub highest: f64,

@@ -3,7 +3,7 @@
 
 
 // What is painted on a tile, as numbers on the ruler.
-#[derive(Drop)]
+#[derive(Clone, Copy)]
 pub struct Paint {
     pub kind: u64,
     pub label: u64,

@@ -12,7 +12,7 @@ pub const SAVED: usize = 20;
 const BYTE: u64 = 256;
 
 // A saved record's five words as numbers on the ruler.
-#[derive(Drop)]
+#[derive(Clone, Copy)]
 pub struct Saved {
     pub left: u64,
     pub bottom: u64,

@@ -5,7 +5,7 @@ ghost use Rattle.lister.specs.Sizes.{BYTES, Within};
 use libc::STDIN_FILENO;
 
 // How many bytes came before the input's end, or that a read failed, which is no end of the input.
-#[derive(Drop)]
+#[derive(Clone, Copy)]
 pub(crate) enum Input {
     Layout(usize),
     Failed,

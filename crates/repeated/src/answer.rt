@@ -1,6 +1,6 @@
 // Answers: 01's numbers by name, and the last run's value beside them.
 #[repr(C)]
-#[derive(Drop)]
+#[derive(Clone, Copy)]
 pub struct Answer {
     pub number: u64,
     pub value: u64,

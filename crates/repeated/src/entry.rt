@@ -4,7 +4,7 @@ ghost use Rattle.repeated.specs.Entry.{Enters};
 use crate::answer::{DONE, SIZE, UNSOUND};
 
 // The number of what is wrong with the table, or DONE, and then how many solids it has.
-#[derive(Drop)]
+#[derive(Clone, Copy)]
 pub struct Entry {
     pub number: u64,
     pub solids: usize,

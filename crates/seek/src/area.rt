@@ -10,14 +10,14 @@ use crate::cell::find;
 use table::numbers::{BOTTOM, KIND, RIGHT, SOLID};
 
 // Nothing, with the tile that the search met last, or a solid with its record and the area's first occupied cell.
-#[derive(Drop)]
+#[derive(Clone, Copy)]
 pub enum Seen {
     Nothing(usize),
     Solid(usize, u64, u64),
 }
 
 // One row: the tile that lies under all of it, or the first solid and the column where that is met.
-#[derive(Drop)]
+#[derive(Clone, Copy)]
 enum Row {
     Clear(usize),
     Stopped(usize, u64),

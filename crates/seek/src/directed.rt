@@ -14,7 +14,7 @@ use crate::cell::find;
 use crate::side::{Walk, along};
 use table::numbers::{BOTTOM, LOW, RIGHT};
 
-#[derive(Drop)]
+#[derive(Clone, Copy)]
 pub struct Area {
     pub left: u64,
     pub bottom: u64,

@@ -14,7 +14,7 @@ const TURN: u64 = LOW + HIGH;
 
 // The words that a walk along one side reads: the stitch that it starts with, the one that it goes on by, the number that it compares with
 // where to stop, and the tile's own edge. On two sides the numbers rise along the walk.
-#[derive(Drop)]
+#[derive(Clone, Copy)]
 pub(crate) struct SideWords {
     pub start: usize,
     pub next: usize,
@@ -75,7 +75,7 @@ fn seen(t: &[i32], i: usize, k: usize, rises: bool) -> u64
 }
 
 // A walk: while there is `more`, it stands at the neighbour `at`. It stops where a tile reaches the number `stop`.
-#[derive(Drop)]
+#[derive(Clone, Copy)]
 pub(crate) struct Walk {
     pub at: usize,
     pub more: bool,

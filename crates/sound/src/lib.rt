@@ -42,7 +42,7 @@ fn laid(t: &[i32]) -> bool
     false
 }
 
-#[derive(Drop)]
+#[derive(Clone, Copy)]
 pub struct Verdict {
     pub sound: bool,
     pub solids: usize,

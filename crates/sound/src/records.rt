@@ -127,7 +127,7 @@ fn one(t: &[i32], i: usize) -> usize
     0
 }
 
-#[derive(Drop)]
+#[derive(Clone, Copy)]
 pub(crate) struct Sums {
     pub(crate) ready: bool,
     pub(crate) area: u64,

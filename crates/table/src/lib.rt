@@ -37,7 +37,7 @@ pub fn in_plane(x: u64, y: u64) -> bool
 }
 
 // A record's ten words as numbers on the ruler.
-#[derive(Drop)]
+#[derive(Clone, Copy)]
 pub struct Record {
     pub left: u64,
     pub bottom: u64,
@@ -181,7 +181,7 @@ pub fn fresh(t: &mut [i32])
 
 // Where the words of a record lie: the first of them, and how many there are.
 #[repr(C)]
-#[derive(Drop)]
+#[derive(Clone, Copy)]
 pub struct Part {
     pub at: usize,
     pub len: usize,

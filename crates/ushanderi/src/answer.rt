@@ -3,7 +3,7 @@ ghost use Rattle.std.specs.Prelude.{◌≡◌, ◌<◌, ◌^◌, pos};
 ghost use Rattle.ushanderi.specs.Answers.{accepted, with_cell, without_cell};
 
 #[repr(C)]
-#[derive(Drop)]
+#[derive(Clone, Copy)]
 pub struct Answer {
     pub number: i32,
     pub value: i32,
@@ -11,7 +11,7 @@ pub struct Answer {
 
 // An answer that also names a cell: the first occupied one, where a search or a create was stopped by it.
 #[repr(C)]
-#[derive(Drop)]
+#[derive(Clone, Copy)]
 pub struct MetAnswer {
     pub number: i32,
     pub value: i32,

@@ -18,7 +18,7 @@ use seek::{Area, Seen};
 use table::numbers;
 
 // The refusal of a create as it goes out, or that it may go on: the search ended at this tile, where the new solid begins.
-#[derive(Drop)]
+#[derive(Clone, Copy)]
 enum MayCreate {
     Refused(MetAnswer),
     Go(usize),
@@ -72,7 +72,7 @@ fn draw(t: &mut [i32], near: usize, from: usize, area: Area, label: u64) -> usiz
 }
 
 // What came of a create: the new solid's record, or the refusal.
-#[derive(Drop)]
+#[derive(Clone, Copy)]
 pub(crate) enum Created {
     At(usize),
     Refused(MetAnswer),
@@ -118,7 +118,7 @@ pub fn create(t: &mut [i32], left: i32, bottom: i32, right: i32, top: i32, label
 }
 
 // The solid that a delete takes away, or the refusal as it goes out.
-#[derive(Drop)]
+#[derive(Clone, Copy)]
 enum MayDelete {
     Refused(Answer),
     Go(usize),

@@ -4,7 +4,7 @@ ghost use Rattle.ushanderi.specs.Entry.{Admits, entry_answer, FewSolids};
 
 use crate::answer::{Answer, SIZE, UNSOUND, done, refused};
 
-#[derive(Drop)]
+#[derive(Clone, Copy)]
 pub(crate) enum Entry {
     Size,
     Unsound,

@@ -18,7 +18,7 @@ use seek::{Area, Seen};
 use table::numbers::ZERO;
 
 // What find answers: the record that holds the cell, or why there is none.
-#[derive(Drop)]
+#[derive(Clone, Copy)]
 pub enum Found {
     At(usize),
     Size,

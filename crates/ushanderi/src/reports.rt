@@ -15,7 +15,7 @@ use seek::Area;
 
 // The report with 02's number and value: the number of windows, which may need 64 bits.
 #[repr(C)]
-#[derive(Drop)]
+#[derive(Clone, Copy)]
 pub struct DensityAnswer {
     pub number: i32,
     pub value: i64,

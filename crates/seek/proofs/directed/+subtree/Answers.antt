@@ -33,7 +33,7 @@ subtree-c-requires t c =
     let h = walking_hangs _ f _ _ c.requires.meets _ c.loop-w.invariant.walk c.loop-w-test.true _ c.floor-lowest.ensures
       (omega (arith, c.if-word-right.false, c.word.ensures.is))
       (omega (arith, c.if-low-lowest.false, c.word-low.ensures.is)) (omega (arith, c.if-low-top.true, c.word-low.ensures.is)) in
-    (omega (arith, c.decreases, h.meets.left, (hangs_beside _ f _ _ _ h).begins), (f, c.requires.size_right, h.meets))
+    (omega (arith, c.decreases, h.meets.left, (hangs_beside _ f _ _ _ h).begins), (f, (c.requires.size_right, h.meets)))
 
 pub overflow_add-n : goal.overflow_add-n
 overflow_add-n t c =

@@ -55,6 +55,7 @@ or_cases false c h f g = g h
 
 or_l : (a c : Bool) → T a → T (a || c)
 or_l true c h = tt
+or_l false c h = elim h [ ]
 
 or_r : (a c : Bool) → T c → T (a || c)
 or_r true c h = tt

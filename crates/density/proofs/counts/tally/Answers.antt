@@ -6,44 +6,22 @@ use lib.Dec.{T}
 use lib.Ieee as Ieee
 use lib.Ieee.{nan, binary64}
 use lib.ListN.{length, get_or}
+use Rattle.std.specs.Prelude.{List, ℤ, ℕ, ◌≡◌}
+use lib.Ieee.{Float}
+use Rattle.seek.specs.Meaning.{Area, RectRight}
 use Rattle.seek.specs.Enumerate.{area_of}
+use Rattle.density.specs.Meaning.{Steps, windows_of}
+use Rattle.density.specs.Counts.{Counted}
 use Rattle.density.specs.Shares.{share_of}
 use Rattle.density.specs.Reporting.{Reporting, windows_small, report_starts, report_ends, small, lowest_small, highest_small}
 use Rattle.density.specs.Tallying.{Ready, Tallying, tally_in, tally_back, tally_sum, tally_on}
 use Rattle.density.proofs.counts.tally.Goals as goal
 
--- ---- where the loop stands
-module _ (l : goal.At-loop-n) where
-  ready : let a = l.args in
-      Ready a.t.now (area_of a.area) a.w a.h l.count_windows-count.result a.out.now
-  ready =
-      record { rect = l.requires.rect_right; steps = l.requires.steps; windows = l.count_windows-count.ensures; room = l.requires.h_in_bounds; counted = l.requires.counted }
+-- what the calls before the loop found of the area
+abbrev ready : (t : List ℤ) (A : Area) (w h many : ℕ) (old : List Float) → RectRight A → Steps A w h → windows_of A w h ≤ length old → Counted t A w h old
+    → many ≡ windows_of A w h → Ready t A w h many old
+ready t A w h many old r s room d e = record { rect = r; steps = s; windows = e; room = room; counted = d }
 
-  done : let a = l.args in
-      Reporting a.t.now (area_of a.area) a.w a.h a.out.now l.loop-n.out l.loop-n.n l.loop-n.lowest l.loop-n.highest l.loop-n.total
-  done = l.loop-n.inv _ ready
-
-  cells_small : l.product-cells.result ≤ 2 ^ 50
-  cells_small = omega (arith, (small _ ready.rect _ _ ready.steps).cells, l.product-cells.ensures)
-
--- one turn of it
-module _ (i : goal.In-loop-n) where
-  below : i.loop-n.n < length i.loop-n.out
-  below = tally_in _ _ _ _ _ _ _ _ _ _ _ (ready i.before) (done i.before) i.loop-n-test.true
-
-  n_small : i.loop-n.n < 2 ^ 50
-  n_small = let r = ready i.before in omega (arith, i.loop-n-test.taken, r.windows, windows_small _ r.rect _ _ r.steps)
-
-  back : T (Ieee.in_unsigned binary64 64 (get_or i.loop-n.out i.loop-n.n nan))
-  back = (tally_back _ _ _ _ _ _ _ _ _ _ _ (ready i.before) (done i.before) i.loop-n-test.taken).0
-
-  total_small : i.loop-n.total + Ieee.to_unsigned 64 (get_or i.loop-n.out i.loop-n.n nan) ≤ 2 ^ 50
-  total_small = tally_sum _ _ _ _ _ _ _ _ _ _ _ (ready i.before) (done i.before) i.loop-n-test.taken
-
-  count_small : Ieee.to_unsigned 64 (get_or i.loop-n.out i.loop-n.n nan) ≤ 2 ^ 50
-  count_small = omega (arith, total_small)
-
--- ---- the needs
 pub product-cells-requires : goal.product-cells-requires
 product-cells-requires c = let i = small _ c.requires.rect_right _ _ c.requires.steps in (i.wide, i.high)
 
@@ -57,34 +35,52 @@ loop-n-init c =
     λ A r. rw c.product-cells.ensures (report_starts a.t.now A a.w a.h a.out.now)
 
 pub offset_bounds-out-i : goal.offset_bounds-out-i
-offset_bounds-out-i c = omega (arith, n_small c)
+offset_bounds-out-i c =
+    let r = ready c.args.t.now (area_of c.args.area) _ _ _ _ c.requires.rect_right c.requires.steps c.requires.h_in_bounds c.requires.counted c.count_windows-count.ensures in
+    let d = c.loop-n.invariant _ r in
+    omega (arith, c.loop-n-test.true, r.windows, windows_small _ r.rect _ _ r.steps)
 
 pub bounds-out-i : goal.bounds-out-i
-bounds-out-i c = below c.before
+bounds-out-i c =
+    let r = ready c.args.t.now (area_of c.args.area) _ _ _ _ c.requires.rect_right c.requires.steps c.requires.h_in_bounds c.requires.counted c.count_windows-count.ensures in
+    let d = c.loop-n.invariant _ r in
+    tally_in _ _ _ _ _ _ _ _ _ _ _ r d c.loop-n-test.true
 
 pub float_to_int-c : goal.float_to_int-c
-float_to_int-c c = back c.before.before
+float_to_int-c c =
+    let r = ready c.args.t.now (area_of c.args.area) _ _ _ _ c.requires.rect_right c.requires.steps c.requires.h_in_bounds c.requires.counted c.count_windows-count.ensures in
+    let d = c.loop-n.invariant _ r in
+    (tally_back _ _ _ _ _ _ _ _ _ _ _ r d c.loop-n-test.true).0
 
 pub share-requires : goal.share-requires
-share-requires c = (count_small c.before.before, cells_small c.before.before.before)
+share-requires c =
+    let r = ready c.args.t.now (area_of c.args.area) _ _ _ _ c.requires.rect_right c.requires.steps c.requires.h_in_bounds c.requires.counted c.count_windows-count.ensures in
+    let d = c.loop-n.invariant _ r in
+    (omega (arith, tally_sum _ _ _ _ _ _ _ _ _ _ _ r d c.loop-n-test.true), omega (arith, (small _ r.rect _ _ r.steps).cells, c.product-cells.ensures))
 
 pub offset_bounds-out-i-in-loop-n : goal.offset_bounds-out-i-in-loop-n
-offset_bounds-out-i-in-loop-n c = omega (arith, n_small c.before.before.before)
+offset_bounds-out-i-in-loop-n c =
+    let r = ready c.args.t.now (area_of c.args.area) _ _ _ _ c.requires.rect_right c.requires.steps c.requires.h_in_bounds c.requires.counted c.count_windows-count.ensures in
+    let d = c.loop-n.invariant _ r in
+    omega (arith, c.loop-n-test.true, r.windows, windows_small _ r.rect _ _ r.steps)
 
 pub bounds-out-i-in-loop-n : goal.bounds-out-i-in-loop-n
-bounds-out-i-in-loop-n c = below c.before.before.before
-
-pub smaller-lowest-requires : goal.smaller-lowest-requires
-smaller-lowest-requires c = tt
-
-pub larger-highest-requires : goal.larger-highest-requires
-larger-highest-requires c = tt
+bounds-out-i-in-loop-n c =
+    let r = ready c.args.t.now (area_of c.args.area) _ _ _ _ c.requires.rect_right c.requires.steps c.requires.h_in_bounds c.requires.counted c.count_windows-count.ensures in
+    let d = c.loop-n.invariant _ r in
+    tally_in _ _ _ _ _ _ _ _ _ _ _ r d c.loop-n-test.true
 
 pub overflow_add-total : goal.overflow_add-total
-overflow_add-total c = omega (arith, total_small c.before.before.before.before.before)
+overflow_add-total c =
+    let r = ready c.args.t.now (area_of c.args.area) _ _ _ _ c.requires.rect_right c.requires.steps c.requires.h_in_bounds c.requires.counted c.count_windows-count.ensures in
+    let d = c.loop-n.invariant _ r in
+    omega (arith, tally_sum _ _ _ _ _ _ _ _ _ _ _ r d c.loop-n-test.true)
 
 pub overflow_add-n : goal.overflow_add-n
-overflow_add-n c = omega (arith, n_small c.before.before.before.before.before)
+overflow_add-n c =
+    let r = ready c.args.t.now (area_of c.args.area) _ _ _ _ c.requires.rect_right c.requires.steps c.requires.h_in_bounds c.requires.counted c.count_windows-count.ensures in
+    let d = c.loop-n.invariant _ r in
+    omega (arith, c.loop-n-test.true, r.windows, windows_small _ r.rect _ _ r.steps)
 
 pub loop-n-smaller : goal.loop-n-smaller
 loop-n-smaller c = omega arith
@@ -97,17 +93,27 @@ loop-n-preserved c =
     c.loop-n.total c.share.result c.loop-n.invariant c.loop-n-test.true (c.share.ensures ∙ ap (share_of _) c.product-cells.ensures))
 
 pub share-requires-2 : goal.share-requires-2
-share-requires-2 c = (lowest_small _ _ (ready c.before).rect _ _ (ready c.before).steps _ _ _ _ _ _ (done c.before), cells_small c.before)
+share-requires-2 c =
+    let r = ready c.args.t.now (area_of c.args.area) _ _ _ _ c.requires.rect_right c.requires.steps c.requires.h_in_bounds c.requires.counted c.count_windows-count.ensures in
+    let d = c.loop-n.invariant _ r in
+    (lowest_small _ _ r.rect _ _ r.steps _ _ _ _ _ _ d, omega (arith, (small _ r.rect _ _ r.steps).cells, c.product-cells.ensures))
 
 pub share-requires-3 : goal.share-requires-3
-share-requires-3 c = (highest_small _ _ (ready c.before.before).rect _ _ (ready c.before.before).steps _ _ _ _ _ _ (done c.before.before), cells_small c.before.before)
+share-requires-3 c =
+    let r = ready c.args.t.now (area_of c.args.area) _ _ _ _ c.requires.rect_right c.requires.steps c.requires.h_in_bounds c.requires.counted c.count_windows-count.ensures in
+    let d = c.loop-n.invariant _ r in
+    (highest_small _ _ r.rect _ _ r.steps _ _ _ _ _ _ d, omega (arith, (small _ r.rect _ _ r.steps).cells, c.product-cells.ensures))
 
 pub shape_of-out : goal.shape_of-out
-shape_of-out c = (done c.before.before.before).written.long
+shape_of-out c =
+    let r = ready c.args.t.now (area_of c.args.area) _ _ _ _ c.requires.rect_right c.requires.steps c.requires.h_in_bounds c.requires.counted c.count_windows-count.ensures in
+    let d = c.loop-n.invariant _ r in
+    d.written.long
 
 pub returns : goal.returns
 returns c =
-    let r = ready c.before.before.before in
+    let r = ready c.args.t.now (area_of c.args.area) _ _ _ _ c.requires.rect_right c.requires.steps c.requires.h_in_bounds c.requires.counted c.count_windows-count.ensures in
+    let d = c.loop-n.invariant _ r in
     let e = c.product-cells.ensures in
-    report_ends _ _ r.rect _ _ r.steps _ _ _ _ _ _ _ (done c.before.before.before) (omega (arith, r.windows, c.loop-n-test.false))
+    report_ends _ _ r.rect _ _ r.steps _ _ _ _ _ _ _ d (omega (arith, r.windows, c.loop-n-test.false))
     (c.share-2.ensures ∙ ap (share_of c.loop-n.lowest) e) (c.share-3.ensures ∙ ap (share_of c.loop-n.highest) e) refl

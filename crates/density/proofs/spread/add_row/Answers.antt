@@ -6,56 +6,31 @@ use lib.ListN.{length}
 use Rattle.density.specs.Row.{RowFits, RowGoes, Adding, row_starts, row_on, row_less, row_inside, row_end_small, piece_small, adding_starts, adding_on, adding_ends}
 use Rattle.density.proofs.spread.add_row.Goals as goal
 
--- ---- where the loop stands
-module _ (l : goal.At-loop-from) where
-  fits : let a = l.args in RowFits (length a.out.now) a.n a.edge a.w a.left a.right a.rows
-  fits = l.requires
-
-  goes : let a = l.args in RowGoes a.n a.edge a.w a.left a.right a.rows l.loop-from.i l.loop-from.from l.loop-from.end
-  goes = l.loop-from.inv.1.0
-
-module _ (c : goal.After-smaller-to) where
-  more : c.loop-from.from < c.args.right
-  more = omega arith
-
-  less : c.loop-from.from < c.smaller-to.result
-  less = row_less _ _ _ _ _ _ _ (fits c.before.before) _ _ _ _ (goes c.before.before) more c.smaller-to.ensures
-
-  inside : c.loop-from.i < length c.args.out.now
-  inside = row_inside _ _ _ _ _ _ _ (fits c.before.before) _ _ _ _ (goes c.before.before) more (fits c.before.before).room
-
-  narrow : c.smaller-to.result - c.loop-from.from ≤ 2 ^ 25
-  narrow = omega (arith, less, c.smaller-to.ensures, goes c.before.before, fits c.before.before)
-
--- ---- the needs
 pub overflow_add-end : goal.overflow_add-end
 overflow_add-end c = let o = c.requires in omega (arith, o)
 
 pub loop-from-init : goal.loop-from-init
 loop-from-init c = let o = c.requires in (refl, (row_starts _ _ _ _ _ _ _ o, adding_starts _ _ _ _ _ _ _ o _))
 
-pub smaller-to-requires : goal.smaller-to-requires
-smaller-to-requires c = tt
-
 pub overflow_sub-to : goal.overflow_sub-to
-overflow_sub-to c = omega (arith, less c.before)
+overflow_sub-to c = omega (arith, row_less _ _ _ _ _ _ _ c.requires _ _ _ _ c.loop-from.invariant.1.0 c.loop-from-test.true c.smaller-to.ensures)
 
 pub product-requires : goal.product-requires
-product-requires c = (narrow c.before, (fits c.before.before.before).high)
+product-requires c = (omega (arith, row_less _ _ _ _ _ _ _ c.requires _ _ _ _ c.loop-from.invariant.1.0 c.loop-from-test.true c.smaller-to.ensures, c.smaller-to.ensures, c.loop-from.invariant.1.0, c.requires), c.requires.high)
 
 pub add-requires : goal.add-requires
 add-requires c =
-    record { n_in_bounds = omega (arith, inside c.before.before, c.loop-from.invariant.0); cells_bound = piece_small _ _ _ (narrow c.before.before) (fits c.before.before.before.before).high c.product.ensures }
+    record { n_in_bounds = omega (arith, row_inside _ _ _ _ _ _ _ c.requires _ _ _ _ c.loop-from.invariant.1.0 c.loop-from-test.true c.requires.room, c.loop-from.invariant.0); cells_bound = piece_small _ _ _ (omega (arith, row_less _ _ _ _ _ _ _ c.requires _ _ _ _ c.loop-from.invariant.1.0 c.loop-from-test.true c.smaller-to.ensures, c.smaller-to.ensures, c.loop-from.invariant.1.0, c.requires)) c.requires.high c.product.ensures }
 
 pub overflow_add-end-in-loop-from : goal.overflow_add-end-in-loop-from
 overflow_add-end-in-loop-from c =
-    omega (arith, row_end_small _ _ _ _ _ _ _ (fits c.before.before.before.before.before.before.before) _ _ _ (goes c.before.before.before.before.before.before.before) (more c.before.before.before.before.before), (fits c.before.before.before.before.before.before.before).step)
+    omega (arith, row_end_small _ _ _ _ _ _ _ c.requires _ _ _ c.loop-from.invariant.1.0 c.loop-from-test.true, c.requires.step)
 
 pub overflow_add-i : goal.overflow_add-i
-overflow_add-i c = omega (arith, inside c.before.before.before.before.before)
+overflow_add-i c = omega (arith, row_inside _ _ _ _ _ _ _ c.requires _ _ _ _ c.loop-from.invariant.1.0 c.loop-from-test.true c.requires.room)
 
 pub loop-from-smaller : goal.loop-from-smaller
-loop-from-smaller c = omega (arith, less c.before.before.before.before.before, more c.before.before.before.before.before)
+loop-from-smaller c = omega (arith, row_less _ _ _ _ _ _ _ c.requires _ _ _ _ c.loop-from.invariant.1.0 c.loop-from-test.true c.smaller-to.ensures, c.loop-from-test.true)
 
 pub loop-from-preserved : goal.loop-from-preserved
 loop-from-preserved c =
@@ -63,9 +38,9 @@ loop-from-preserved c =
     let e = c.add.ensures in (
       c.add.auto.out ∙ c.loop-from.invariant.0,
       (
-        row_on _ _ _ _ _ _ _ (fits c.before.before.before.before.before.before.before) _ _ _ _ (goes c.before.before.before.before.before.before.before) (more c.before.before.before.before.before) c.smaller-to.ensures,
+        row_on _ _ _ _ _ _ _ c.requires _ _ _ _ c.loop-from.invariant.1.0 c.loop-from-test.true c.smaller-to.ensures,
         subst (λ out. Adding a.n a.edge a.w a.left a.right a.rows a.out.now out (c.loop-from.i + 1)) (sym e)
-            (adding_on _ _ _ _ _ _ _ (fits c.before.before.before.before.before.before.before) _ _ _ _ _ _ _ (goes c.before.before.before.before.before.before.before) (more c.before.before.before.before.before) c.smaller-to.ensures c.product.ensures c.loop-from.invariant.0 c.loop-from.invariant.1.1),
+            (adding_on _ _ _ _ _ _ _ c.requires _ _ _ _ _ _ _ c.loop-from.invariant.1.0 c.loop-from-test.true c.smaller-to.ensures c.product.ensures c.loop-from.invariant.0 c.loop-from.invariant.1.1),
       ),
     )
 
@@ -74,4 +49,4 @@ shape_of-out c = c.loop-from.invariant.0
 
 pub returns : goal.returns
 returns c =
-    adding_ends _ _ _ _ _ _ _ (fits c.before) _ _ _ _ _ (goes c.before) (omega arith) c.loop-from.invariant.1.1
+    adding_ends _ _ _ _ _ _ _ c.requires _ _ _ _ _ c.loop-from.invariant.1.0 (omega arith) c.loop-from.invariant.1.1

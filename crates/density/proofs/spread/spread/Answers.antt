@@ -29,7 +29,7 @@ loop-j-smaller c = omega arith
 pub loop-j-preserved : goal.loop-j-preserved
 loop-j-preserved c =
     (
-      c.add_tile.auto.1.1.0 ∙ c.loop-j.invariant.0,
+      c.add_tile.auto.out ∙ c.loop-j.invariant.0,
       (
         omega arith,
         spread_on _ c.requires.forms _ c.requires.rect_right _ _ c.requires.steps c.args.list.now c.requires.each _ _ _ c.loop-j.j (omega arith) c.loop-j.invariant.1.1

@@ -1,13 +1,9 @@
 -- `density::windows::count_windows` meets its contract. Assumes nothing.
-use borrow.Author.Rules.{rules}
 use mathlib.Core.Path.{ap, ◌∙◌}
 use Prim.Native.Nat.{◌-◌, ◌*◌, ◌/◌}
 use native.Mathlib.Nat.{div-le_self}
 use native.Mathlib.Omega.{arith}
 use Rattle.density.proofs.windows.count_windows.Goals as goal
-
-pub div-product : goal.div-product
-div-product c = search rules
 
 pub product-requires : goal.product-requires
 product-requires c =

@@ -1,8 +1,8 @@
--- `ushanderi::host::ush_density` meets the promise of density. Assumes nothing.
+-- `ushanderi_c::ush_density` meets the promise of density. Assumes nothing.
 use Rattle.ruler.specs.Ruler.{length_bits}
 use Rattle.ushanderi.specs.ReadingAreas.{area_bits}
 use Rattle.ushanderi.specs.Reports.{density_same}
-use Rattle.ushanderi.proofs.host.ush_density.Goals as goal
+use Rattle.ushanderi_c.proofs.ush_density.Goals as goal
 
 pub returns : goal.returns
 returns c =

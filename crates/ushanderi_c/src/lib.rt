@@ -1,13 +1,15 @@
 // The same calls by C names: each does what the call of its name does, and its contract is that call's promise.
+#![tactic(auto)]
+
 ghost use Rattle.ruler.specs.Ruler.{length_of, ruler};
 ghost use Rattle.table.specs.View.{Places};
 ghost use Rattle.ushanderi.specs.Promises.{FreshSays, CheckSays, FindSays, NeighboursSays, SearchSays, EnumerateSays, DensitySays, CreateSays, DeleteSays, SaveSays, LoadSays};
 ghost use Rattle.ushanderi.specs.Answers.{ruler_area};
 
-use crate::answer::{Answer, MetAnswer};
-use crate::reports::DensityAnswer;
-use crate::{editing, layouts, plane, reading, reports};
 use table::Part;
+use ushanderi::answer::{Answer, MetAnswer};
+use ushanderi::reports::DensityAnswer;
+use ushanderi::{editing, layouts, plane, reading, reports};
 
 #[unsafe(no_mangle)]
 pub extern "C" fn ush_fresh(t: &mut [i32]) -> Answer
@@ -35,8 +37,7 @@ pub extern "C" fn ush_view(t: &[i32], index: i32) -> Part
 pub extern "C" fn ush_find(t: &[i32], x: i32, y: i32, hint: i32) -> Answer
     ensures { FindSays t.now (ruler x) (ruler y) result }
 {
-    let f = reading::find(t, x, y, hint);
-    reading::found_answer(f)
+    reading::find_answered(t, x, y, hint)
 }
 
 #[unsafe(no_mangle)]

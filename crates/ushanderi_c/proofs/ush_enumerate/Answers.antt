@@ -1,6 +1,6 @@
--- `ushanderi::host::ush_enumerate` meets the promise of enumerate. Assumes nothing.
+-- `ushanderi_c::ush_enumerate` meets the promise of enumerate. Assumes nothing.
 use Rattle.ushanderi.specs.ReadingAreas.{area_bits, enumerate_same}
-use Rattle.ushanderi.proofs.host.ush_enumerate.Goals as goal
+use Rattle.ushanderi_c.proofs.ush_enumerate.Goals as goal
 
 pub returns : goal.returns
 returns c =

@@ -1,6 +1,6 @@
--- `ushanderi::host::ush_delete` meets the promise of delete. Assumes nothing.
+-- `ushanderi_c::ush_delete` meets the promise of delete. Assumes nothing.
 use Rattle.ushanderi.specs.Editing.{delete_bits}
-use Rattle.ushanderi.proofs.host.ush_delete.Goals as goal
+use Rattle.ushanderi_c.proofs.ush_delete.Goals as goal
 
 pub returns : goal.returns
 returns c =

@@ -1,6 +1,6 @@
--- `ushanderi::host::ush_neighbours` meets the promise of neighbours. Assumes nothing.
+-- `ushanderi_c::ush_neighbours` meets the promise of neighbours. Assumes nothing.
 use Rattle.ushanderi.specs.ReadingSides.{neighbours_bits}
-use Rattle.ushanderi.proofs.host.ush_neighbours.Goals as goal
+use Rattle.ushanderi_c.proofs.ush_neighbours.Goals as goal
 
 pub returns : goal.returns
 returns c =

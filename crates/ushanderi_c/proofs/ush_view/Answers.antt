@@ -1,7 +1,7 @@
 use mathlib.Core.Path.{subst}
 use mir.Facts.{to_z-of_z}
 use Rattle.table.specs.View.{Places}
-use Rattle.ushanderi.proofs.host.ush_view.Goals as goal
+use Rattle.ushanderi_c.proofs.ush_view.Goals as goal
 
 pub returns : goal.returns
 returns c =

@@ -1,6 +1,6 @@
--- `ushanderi::host::ush_search` meets the promise of area search. Assumes nothing.
+-- `ushanderi_c::ush_search` meets the promise of area search. Assumes nothing.
 use Rattle.ushanderi.specs.ReadingAreas.{area_bits, search_same}
-use Rattle.ushanderi.proofs.host.ush_search.Goals as goal
+use Rattle.ushanderi_c.proofs.ush_search.Goals as goal
 
 pub returns : goal.returns
 returns c =

@@ -1,8 +1,8 @@
--- `ushanderi::host::ush_create` meets the promise of create. Assumes nothing.
+-- `ushanderi_c::ush_create` meets the promise of create. Assumes nothing.
 use Rattle.ruler.specs.Ruler.{ruler_bits}
 use Rattle.ushanderi.specs.ReadingAreas.{area_bits}
 use Rattle.ushanderi.specs.Editing.{create_same}
-use Rattle.ushanderi.proofs.host.ush_create.Goals as goal
+use Rattle.ushanderi_c.proofs.ush_create.Goals as goal
 
 pub returns : goal.returns
 returns c =

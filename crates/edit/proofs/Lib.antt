@@ -1,3 +1,3 @@
--- Theorems of the specs files of the same names that rest on `room`: there is a free record.
+-- Theorems on `room`, that there is a free record: of specs/Carve in Carve, of specs/Delete in Shrink.
 pub mod Carve
-pub mod Delete
+pub mod Shrink

@@ -1,5 +1,5 @@
 -- Rising keys are the order of a saved layout: the theorems of specs/Keys that end in the order. Assumes nothing.
-use Rattle.std.specs.Prelude.{◌≡◌, List, map, ℕ, ◌-◌, ◌*◌, ◌<◌, ℤ, length, get_or}
+use Rattle.std.specs.Prelude.{◌≡◌, List, map, ℕ, ◌<◌, ℤ, length, get_or}
 use Rattle.std.proofs.Common.{sym, ◌∙◌, subst, subst₂, arith}
 use Rattle.std.proofs.lemmas.List.{length-map}
 use Rattle.std.proofs.Math.ListN.{get_or-map}

@@ -1,4 +1,4 @@
--- Theorems of the specs files of the same names that rest on what comes before what in a saved layout.
+-- Theorems on what comes before what in a saved layout: of specs/Keys, specs/Saving (in Saves) and specs/OneOrder.
 pub mod Keys
-pub mod Saving
+pub mod Saves
 pub mod OneOrder

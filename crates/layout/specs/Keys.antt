@@ -1,19 +1,13 @@
 -- The keys by which save sorts: rising keys are the order of a saved layout. Assumes nothing.
-use Rattle.std.specs.Prelude.{◌≡◌, List, map, ℕ, ◌+◌, ◌-◌, ◌*◌, ◌<◌, ℤ, length, get_or}
-use Rattle.std.proofs.Common.{sym, ◌∙◌, subst, subst₂, arith, eqb→eq}
-use Rattle.std.proofs.lemmas.List.{length-map}
-use Rattle.std.proofs.Math.ListN.{get_or-map}
-use Rattle.geometry.specs.Cases.{lt_cases}
+use Rattle.std.specs.Prelude.{◌≡◌, List, ℕ, ◌+◌, ◌-◌, ◌*◌, ◌<◌, ℤ, length, get_or}
+use Rattle.std.proofs.Common.{arith, eqb→eq}
 use Rattle.geometry.specs.Picture.{LOW, HIGH, SOLID}
 use Rattle.geometry.specs.Plane.{Is, Formed}
-use Rattle.geometry.specs.Tiling.{eq→eqb}
 use Rattle.table.specs.Words.{LEFT, TOP, KIND, records_of, num}
 use Rattle.table.specs.Sound.{SizeRight, solid_at, SolidIn}
 use Rattle.table.specs.Forms.{Forms, plane_in, used_is}
-use Rattle.seek.specs.Meaning.{Lists}
-use Rattle.layout.specs.Order.{Comes}
 use Rattle.sorting.specs.Sorting.{Sorts}
-use Rattle.sorting.specs.Keys.{RECORDS, record_of, keys_of, Collects, key_at, key_before, key_of}
+use Rattle.sorting.specs.Keys.{RECORDS, record_of, keys_of, Collects, key_at}
 
 -- top down first, then left, then the record's number
 unfoldable pub key : List ℤ → ℕ → ℕ

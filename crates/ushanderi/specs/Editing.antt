@@ -18,7 +18,7 @@ use Rattle.seek.specs.Find.{Finds}
 use Rattle.edit.specs.Tidy.{SameTile}
 use Rattle.edit.specs.Create.{CanLay, Creates, creates_new}
 use Rattle.edit.specs.Delete.{Deletes, CanShrink}
-use Rattle.edit.proofs.Delete.{shrink_room}
+use Rattle.edit.proofs.Shrink.{shrink_room}
 use Rattle.ushanderi.specs.Answers.{SIZE, UNSOUND, RECT, LABEL, OCCUPIED, FULL, accepted, found_answer}
 use Rattle.ushanderi.specs.Edits.{drawn, Adds, Removes, Edited, label_in}
 use Rattle.ushanderi.specs.Promises.{Unfit, Fit, FindSays, CreateRefuses, CreateAllows, CreateDone, CreateSays, DeleteRefuses, DeleteAllows, DeleteSays}

@@ -3,7 +3,8 @@ use Rattle.std.specs.Prelude.{◌≡◌, ◌≢◌, List, ℕ, ℤ, pos}
 use Rattle.std.proofs.Common.{sym, ap, ◌∙◌, arith}
 use Rattle.geometry.specs.Picture.{InPlane}
 use Rattle.table.specs.Sound.{UsedIn, SolidIn}
-use Rattle.table.specs.Forms.{Forms, sound_forms, used_is}
+use Rattle.table.specs.Forms.{Forms, used_is}
+use Rattle.table.proofs.Forms.{sound_forms}
 use Rattle.seek.specs.Meaning.{Area, First}
 use Rattle.seek.specs.Find.{Finds, finds_one}
 use Rattle.seek.specs.Search.{first_one}

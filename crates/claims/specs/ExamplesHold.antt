@@ -15,7 +15,8 @@ use Rattle.table.specs.Words.{WIDTH, LEFT, BOTTOM, RIGHT, TOP, TR, RT, BL, LB, r
 use Rattle.table.specs.Sound.{SizeRight, UsedIn, Names, capacity, solids_in, spaces_in, SolidIn}
 use Rattle.table.specs.Fresh.{fresh_table}
 use Rattle.table.specs.FreshSound.{fresh_length, fresh_no_solid}
-use Rattle.table.specs.Examples.{one, abc, one_spaces, one_solids, abc_spaces, abc_solids, fresh_sound_20}
+use Rattle.table.specs.Examples.{one, abc, one_spaces, one_solids, abc_spaces, abc_solids}
+use Rattle.table.proofs.Examples.{fresh_sound_20}
 use Rattle.seek.specs.Meaning.{Area, InArea, RectRight, Before, higher, same_row, FreeCell, FreeArea, First, tree, none, more, Directed}
 use Rattle.seek.specs.Find.{Finds}
 use Rattle.seek.specs.Neighbours.{side_of, Neighbours}

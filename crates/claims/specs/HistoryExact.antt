@@ -8,7 +8,7 @@ use Rattle.geometry.specs.Tiling.{Kinded, eq→eqb}
 use Rattle.geometry.specs.Counting.{only, count}
 use Rattle.table.specs.Words.{KIND, records_of, num, tile_of}
 use Rattle.table.specs.Sound.{capacity, solid_at, space_at, solids_in, SolidIn}
-use Rattle.table.specs.Forms.{sound_three}
+use Rattle.table.proofs.Forms.{sound_three}
 use Rattle.seek.specs.Meaning.{Area, RectRight, FreeArea}
 use Rattle.ushanderi.specs.Answers.{DONE, OCCUPIED, FULL, ROOM}
 use Rattle.ushanderi.specs.declared.answer.Answer.{Answer}

@@ -11,7 +11,7 @@ use Rattle.table.specs.Words.{LEFT, BOTTOM, RIGHT, TOP, KIND, records_of, num, t
 use Rattle.table.specs.Sound.{SizeRight, SoundFor, solids_in, SolidIn}
 use Rattle.table.specs.Fresh.{fresh_table}
 use Rattle.table.specs.FreshSound.{OneTile, fresh_one}
-use Rattle.table.specs.Forms.{sound_three}
+use Rattle.table.proofs.Forms.{sound_three}
 use Rattle.seek.specs.Meaning.{Area}
 use Rattle.layout.specs.Bytes.{saved_at, SAVED}
 use Rattle.ushanderi.specs.Edits.{drawn}

@@ -5,8 +5,10 @@ use Rattle.ruler.specs.Ruler.{ruler}
 use Rattle.geometry.specs.Counting.{sum_to, count}
 use Rattle.table.specs.Words.{WIDTH, records_of, num}
 use Rattle.table.specs.Sound.{Sound, solids_in, spaces_in}
-use Rattle.table.specs.Decide.{soundb, soundb_sound}
-use Rattle.table.specs.Examples.{one, abc, one_sound, abc_sound}
+use Rattle.table.specs.Decide.{soundb}
+use Rattle.table.proofs.Decide.{soundb_sound}
+use Rattle.table.specs.Examples.{one, abc}
+use Rattle.table.proofs.Examples.{one_sound, abc_sound}
 use Rattle.ushanderi.specs.Promises.{Fit}
 use Rattle.claims.specs.Tests.{drawsb, drawsb_draws}
 use Rattle.claims.specs.Drawing.{neg, E, -E, A, B, C, D, W, Draws, rec, full_next, free, full}

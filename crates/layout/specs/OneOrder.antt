@@ -8,15 +8,11 @@ use Rattle.geometry.specs.Picture.{SOLID}
 use Rattle.geometry.specs.Tiling.{eq→eqb}
 use Rattle.geometry.specs.Counting.{count}
 use Rattle.table.specs.Words.{KIND, records_of, num}
-use Rattle.table.specs.Sound.{SizeRight, solid_at, solids_in, SolidIn}
-use Rattle.table.specs.Forms.{Forms}
+use Rattle.table.specs.Sound.{solid_at, solids_in, SolidIn}
 use Rattle.seek.specs.Meaning.{Lists}
 use Rattle.seek.specs.Lists.{lists_one}
 use Rattle.layout.specs.Bytes.{file_bytes, SAVED}
 use Rattle.layout.specs.Order.{Comes, higher, level, saved_of, Saves}
-use Rattle.sorting.specs.Sorting.{sorted, sorted_sorts}
-use Rattle.sorting.specs.Keys.{record_of}
-use Rattle.layout.specs.Keys.{keys_to, sorted_lists}
 
 -- ---- the order of a saved layout
 
@@ -28,11 +24,6 @@ comes_asym t j k (level a b) (level c d) = omega arith
 
 pub one_order : (t : List ℤ) (ks ls : List ℕ) → Lists (SolidIn t) (Comes t) ks → Lists (SolidIn t) (Comes t) ls → ks ≡ ls
 one_order t = lists_one (SolidIn t) (Comes t) (λ j k u v. comes_asym t j k)
-
-pub some_order : (t : List ℤ) → Forms t → SizeRight t → (ks : List ℕ) × Lists (SolidIn t) (Comes t) ks
-some_order t f z =
-    let keys = keys_to t (records_of t) in
-    (map record_of (sorted keys), sorted_lists t f z (sorted keys) (sorted_sorts keys))
 
 -- as many as there are solids
 pub order_length : (t : List ℤ) (ks : List ℕ) → Lists (SolidIn t) (Comes t) ks → length ks ≡ solids_in t

@@ -10,10 +10,10 @@ use Rattle.layout.specs.declared.bytes.Saved.{Saved}
 use Rattle.layout.specs.Bytes.{record_bytes, file_bytes, SavedFits, SAVED}
 use Rattle.layout.specs.BytesLaws.{file_length, record_length}
 use Rattle.layout.specs.Patch.{patch, patch_none, patch_then, patch_start}
-use Rattle.layout.specs.Order.{saved_of, Saves}
+use Rattle.layout.specs.Order.{saved_of}
 use Rattle.sorting.specs.Sorting.{Sorts}
 use Rattle.sorting.specs.Keys.{record_of}
-use Rattle.layout.specs.Keys.{keys_to, CollectsKeys, record_at, sorted_lists}
+use Rattle.layout.specs.Keys.{keys_to, CollectsKeys, record_at}
 
 -- ---- writing
 
@@ -78,16 +78,16 @@ written t ks out₀ out k w h =
 
 module _ (t : List ℤ) (f : Forms t) (z : SizeRight t) (keys : List ℕ) (n : ℕ) (c : CollectsKeys t keys n) (fit : n ≤ length keys) (ys : List ℕ)
     (long : length ys ≡ length (take n keys)) (s : Sorts (take n keys) ys) where
-  back_long : length ys ≡ n
+  pub back_long : length ys ≡ n
   back_long = long ∙ length-take-le n keys fit
 
-  back : take n (ys ++ drop n keys) ≡ ys
+  pub back : take n (ys ++ drop n keys) ≡ ys
   back = take_at ys (drop n keys) n back_long
 
   pub back_count : n ≡ length (take n (ys ++ drop n keys))
   back_count = sym back_long ∙ ap length (sym back)
 
-  are_sorted : Sorts (keys_to t (records_of t)) ys
+  pub are_sorted : Sorts (keys_to t (records_of t)) ys
   are_sorted = subst (λ l. Sorts l ys) c.are s
 
   -- the part that is handed on
@@ -97,14 +97,3 @@ module _ (t : List ℤ) (f : Forms t) (z : SizeRight t) (keys : List ℕ) (n : �
   pub back_below : (k : ℕ) → k < length (take n (ys ++ drop n keys)) → record_of (get_or (take n (ys ++ drop n keys)) k 0) < records_of t
   back_below k h =
       subst (λ l. record_of (get_or l k 0) < records_of t) (sym back) (record_at t f z ys are_sorted k (subst (λ l. k < length l) back h)).below
-
-  pub saves : (out out' : List ℕ) (r : ℕ) → r ≡ SAVED * length (take n (ys ++ drop n keys))
-      → out' ≡ file_bytes (saved_by t (take n (ys ++ drop n keys))) ++ drop (SAVED * length (take n (ys ++ drop n keys))) out → Saves t out out' r
-  saves out out' r e w =
-      let q : r ≡ SAVED * length ys = e ∙ ap (λ l. SAVED * length l) back in
-      record {
-        solids = map record_of ys;
-        lists = sorted_lists t f z ys are_sorted;
-        number = q ∙ ap (λ m. SAVED * m) (sym (length-map ys record_of));
-        writes = w ∙ ap₂ (λ l m. file_bytes (saved_by t l) ++ drop m out) back (sym e);
-      }

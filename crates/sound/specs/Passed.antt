@@ -11,7 +11,8 @@ use Rattle.geometry.specs.Stitches.{HoldsUp, on_top}
 use Rattle.geometry.specs.Tiling.{solid_of, Kinded, space, solid, Widest}
 use Rattle.table.specs.Words.{LEFT, BOTTOM, RIGHT, TOP, RT, KIND, num, records_of, tile_of}
 use Rattle.table.specs.Sound.{SizeRight, capacity, solids_in, UsedIn}
-use Rattle.table.specs.Forms.{plane_in, link, Forms, used_is, is_used, holds_has, has_holds, stitched_good, good_stitched}
+use Rattle.table.specs.Forms.{plane_in, link, Forms, used_is, is_used, holds_has, has_holds}
+use Rattle.table.proofs.Forms.{stitched_good, good_stitched}
 use Rattle.sound.specs.Records.{KindRight, AllWell}
 use Rattle.sound.specs.Links.{Ready, ready_formed, named_at}
 use Rattle.sound.specs.Columns.{Lined, Rows, AllFit}

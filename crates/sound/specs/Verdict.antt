@@ -2,7 +2,6 @@
 use Rattle.std.specs.Prelude.{◌≡◌, refl, ◌↔◌, Bool, true, false, List, ℕ, ◌^◌, ◌≤◌, T, ℤ}
 use Rattle.std.proofs.Common.{sym, ◌∙◌, arith}
 use Rattle.geometry.specs.Picture.{LOW, HIGH, SOLID}
-use Rattle.geometry.specs.Plane.{area}
 use Rattle.table.specs.Words.{records_of}
 use Rattle.table.specs.Sound.{SizeRight, capacity, solids_in, UsedIn}
 use Rattle.table.specs.Forms.{Forms}

@@ -15,9 +15,9 @@ use Rattle.geometry.specs.Tiling.{Kinded, Widest}
 use Rattle.geometry.specs.Stitches.{Good}
 use Rattle.geometry.specs.Counting.{only, count}
 use Rattle.table.specs.Words.{WIDTH, LEFT, BOTTOM, RIGHT, TOP, TR, RT, BL, LB, KIND, LABEL, records_of, num, tile_of, MOST}
-use Rattle.table.specs.Sound.{UsedIn, NONE, Zeros, Sound, solid_at, space_at, solids_in, spaces_in}
+use Rattle.table.specs.Sound.{UsedIn, NONE, Zeros, solid_at, space_at, solids_in, spaces_in}
 use Rattle.table.specs.Fresh.{fresh_table}
-use Rattle.table.specs.Forms.{plane_in, stitches_in, none, link, Forms, is_used, used_is, forms_sound}
+use Rattle.table.specs.Forms.{plane_in, stitches_in, link, Forms, is_used, used_is}
 
 -- ---- a table of one tile, number by number
 
@@ -117,9 +117,6 @@ module _ (t : List ℤ) (few : records_of t ≤ MOST) (o : OneTile t) where
   pub one_forms : Forms t
   one_forms = record { zeros = one_zeros; widest = one_widest; good = one_good; few = omega (arith, one_no_solid) }
 
-  pub one_sound : Sound t
-  one_sound = forms_sound t few one_forms
-
 -- ---- the fresh table's words
 
 pub fresh_length : (n : ℕ) → WIDTH ≤ n → length (fresh_table n) ≡ n
@@ -157,9 +154,6 @@ fresh_one n h =
 
 pub fresh_few : (n : ℕ) → WIDTH ≤ n → n / WIDTH ≤ MOST → records_of (fresh_table n) ≤ MOST
 fresh_few n h f = omega (arith, fresh_length n h)
-
-pub fresh_sound : (n : ℕ) → WIDTH ≤ n → n / WIDTH ≤ MOST → Sound (fresh_table n)
-fresh_sound n h f = one_sound (fresh_table n) (fresh_few n h f) (fresh_one n h)
 
 pub fresh_no_solid : (n : ℕ) → WIDTH ≤ n → n / WIDTH ≤ MOST → solids_in (fresh_table n) ≡ 0
 fresh_no_solid n h f = one_no_solid (fresh_table n) (fresh_few n h f) (fresh_one n h)

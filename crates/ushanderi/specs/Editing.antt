@@ -11,12 +11,14 @@ use Rattle.geometry.specs.Counting.{only, count}
 use Rattle.table.specs.Words.{KIND, records_of, num, tile_of}
 use Rattle.table.specs.Words
 use Rattle.table.specs.Sound.{UsedIn, capacity, solid_at, solids_in, SolidIn, SpaceIn}
-use Rattle.table.specs.Forms.{Forms, forms_sound}
+use Rattle.table.specs.Forms.{Forms}
+use Rattle.table.proofs.Forms.{forms_sound}
 use Rattle.seek.specs.Meaning.{Area}
 use Rattle.seek.specs.Find.{Finds}
 use Rattle.edit.specs.Tidy.{SameTile}
 use Rattle.edit.specs.Create.{CanLay, Creates, creates_new}
-use Rattle.edit.specs.Delete.{Deletes, CanShrink, shrink_room}
+use Rattle.edit.specs.Delete.{Deletes, CanShrink}
+use Rattle.edit.proofs.Shrink.{shrink_room}
 use Rattle.ushanderi.specs.Answers.{SIZE, UNSOUND, RECT, LABEL, OCCUPIED, FULL, accepted, found_answer}
 use Rattle.ushanderi.specs.Edits.{drawn, Adds, Removes, Edited, label_in}
 use Rattle.ushanderi.specs.Promises.{Unfit, Fit, FindSays, CreateRefuses, CreateAllows, CreateDone, CreateSays, DeleteRefuses, DeleteAllows, DeleteSays}

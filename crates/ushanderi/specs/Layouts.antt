@@ -4,11 +4,13 @@ use Rattle.std.proofs.Common.{sym, ap, ◌∙◌, subst, arith}
 use Rattle.table.specs.Words.{WIDTH, LEAST, MOST}
 use Rattle.table.specs.Sound.{SizeRight, UsedIn, Sound, solids_in}
 use Rattle.table.specs.Fresh.{fresh_table}
-use Rattle.table.specs.FreshSound.{fresh_length, fresh_one, fresh_sound, fresh_no_solid}
+use Rattle.table.specs.FreshSound.{fresh_length, fresh_one, fresh_no_solid}
+use Rattle.table.proofs.FreshSound.{fresh_sound}
 use Rattle.layout.specs.Bytes.{saved_at, SAVED}
 use Rattle.layout.specs.declared.bytes.Saved.{Saved}
 use Rattle.layout.specs.Order.{Saves}
-use Rattle.layout.specs.OneOrder.{some_order, order_length, saves_bytes}
+use Rattle.layout.specs.OneOrder.{order_length, saves_bytes}
+use Rattle.layout.proofs.OneOrder.{some_order}
 use Rattle.ushanderi.specs.Answers.{SIZE, SHORT, FILE, answered, accepted, without_cell}
 use Rattle.ushanderi.specs.Promises.{Fit, CreateRefuses, CreateDone, SaveSays, area_in, Built, LoadStops, LoadSays}
 use Rattle.ushanderi.specs.Reading.{fit_forms}

@@ -5,7 +5,8 @@ use Rattle.std.specs.Int.{w32}
 use Rattle.ruler.specs.Ruler.{ruler, ruler_bits}
 use Rattle.table.specs.Words.{records_of}
 use Rattle.table.specs.Sound.{SizeRight, solids_in}
-use Rattle.table.specs.Forms.{Forms, sound_forms}
+use Rattle.table.specs.Forms.{Forms}
+use Rattle.table.proofs.Forms.{sound_forms}
 use Rattle.seek.specs.Find.{Finds}
 use Rattle.ushanderi.specs.Answers.{SIZE, UNSOUND, POINT, accepted, refused, found_answer}
 use Rattle.ushanderi.specs.Promises.{Unfit, Fit, FindSays}

@@ -1,11 +1,8 @@
-use mathlib.Core.Path.{◌≡◌, refl, ap, ◌∙◌}
-use mathlib.Core.List.{◌++◌, append-nil}
-use Prim.Native.Nat.{◌≤◌, ◌<◌, ◌-◌}
-use native.Mathlib.Omega.{arith}
+use mathlib.Core.Path.{◌≡◌}
+use mathlib.Core.List.{◌++◌}
+use Prim.Native.Nat.{◌≤◌, ◌-◌}
 use lib.IntN.{pos}
 use lib.ListN.{length, drop, replicate}
-use lib.Seq.{drop-length}
-use Rattle.table.proofs.Laws.{fill_more}
 use Rattle.table.proofs.clear.Given as goal
 
 abbrev pub invariant-loop-i : goal.invariant-loop-i

@@ -1,9 +1,8 @@
 -- `create::create` meets its contract. The invariant: from the first strip on, k is the new solid as far as it is done, up to y. The measure is what is left. Assumes nothing.
 use native.Mathlib.Omega.{arith}
 use mathlib.Core.Path.{refl, ◌∙◌}
-use Prim.Native.Nat.{◌-◌}
 use Rattle.table.specs.Words.{TOP, num}
-use Rattle.edit.specs.Create.{Growing, growing_first, growing_lays, growing_joins, growing_on, growing_rises, growing_ends}
+use Rattle.edit.specs.Create.{growing_first, growing_lays, growing_joins, growing_on, growing_rises, growing_ends}
 use Rattle.edit.proofs.create.create.Goals as goal
 
 pub strip-k-requires : goal.strip-k-requires

@@ -14,8 +14,13 @@ carve_rows-q-requires c =
     let w = strip_ready c.args.t.now c.paint.new.t c.args.from c.find-k.result c.args.left c.args.bottom c.args.right c.args.top
     c.word-high.result c.smaller-stop.result
     c.args.ink c.requires c.find-k.ensures.used c.find-k.ensures.has c.word-high.ensures.is c.smaller-stop.ensures c.paint.ensures in
-    record { cuttable = w.cuttable; shut = w.filled.shut; rows = w.rows; wall_at = strip_wall c.args.t.now c.paint.new.t c.find-k.result c.args.left c.args.bottom c.args.right c.args.top c.smaller-stop.result c.args.ink
-              c.wall_of-wall.result (forms_tidy c.args.t.now c.requires.forms c.requires.size.most) w c.wall_of-wall.ensures }
+    record {
+      cuttable = w.cuttable;
+      shut = w.filled.shut;
+      rows = w.rows;
+      wall_at = strip_wall c.args.t.now c.paint.new.t c.find-k.result c.args.left c.args.bottom c.args.right c.args.top c.smaller-stop.result c.args.ink
+          c.wall_of-wall.result (forms_tidy c.args.t.now c.requires.forms c.requires.size.most) w c.wall_of-wall.ensures;
+    }
 
 pub carve_columns-k-requires : goal.carve_columns-k-requires
 carve_columns-k-requires c =
@@ -25,9 +30,13 @@ carve_columns-k-requires c =
     let r = c.args.right in
     let w = strip_ready t c.paint.new.t c.args.from c.find-k.result l b r c.args.top c.word-high.result c.smaller-stop.result
     c.args.ink c.requires c.find-k.ensures.used c.find-k.ensures.has c.word-high.ensures.is c.smaller-stop.ensures c.paint.ensures in
-    record { cuttable = cut_on c.paint.new.t c.carve_rows-q.new.t c.find-k.result c.carve_rows-q.result (num c.paint.new.t c.find-k.result LEFT) b (num c.paint.new.t c.find-k.result RIGHT) c.smaller-stop.result
-          w.cuttable c.carve_rows-q.ensures.trim; shut = c.carve_rows-q.ensures.shut; columns = strip_columns t c.paint.new.t c.carve_rows-q.new.t c.find-k.result c.carve_rows-q.result l
-            b r c.args.top c.smaller-stop.result c.args.ink c.requires.rect.wide w c.carve_rows-q.ensures.trim }
+    record {
+      cuttable = cut_on c.paint.new.t c.carve_rows-q.new.t c.find-k.result c.carve_rows-q.result (num c.paint.new.t c.find-k.result LEFT) b (num c.paint.new.t c.find-k.result RIGHT) c.smaller-stop.result
+          w.cuttable c.carve_rows-q.ensures.trim;
+      shut = c.carve_rows-q.ensures.shut;
+      columns = strip_columns t c.paint.new.t c.carve_rows-q.new.t c.find-k.result c.carve_rows-q.result l
+          b r c.args.top c.smaller-stop.result c.args.ink c.requires.rect.wide w c.carve_rows-q.ensures.trim;
+    }
 
 pub returns : goal.returns
 returns c =

@@ -1,6 +1,7 @@
 -- `delete::cut_off` meets its contract. Assumes nothing.
 use native.Mathlib.Omega.{arith}
-use Rattle.edit.specs.Carve.{cut_room, row_splits}
+use Rattle.edit.specs.Carve.{row_splits}
+use Rattle.edit.proofs.Carve.{cut_room}
 use Rattle.edit.specs.Delete.{left_beside, slab_cut, slab_whole}
 use Rattle.edit.proofs.delete.cut_off.Goals as goal
 

@@ -2,7 +2,7 @@
 use native.Mathlib.Omega.{arith}
 use Prim.Native.Nat.{◌<◌, ◌≤◌}
 use Rattle.table.specs.Words.{records_of}
-use Rattle.edit.specs.Delete.{Deleting, to_do, deleting_first, deleting_can, deleting_on, deleting_falls, deleting_ends}
+use Rattle.edit.specs.Delete.{deleting_first, deleting_can, deleting_on, deleting_falls, deleting_ends}
 use Rattle.edit.proofs.delete.delete.Goals as goal
 
 pub loop-i-init : goal.loop-i-init

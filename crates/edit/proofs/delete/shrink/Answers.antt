@@ -23,17 +23,17 @@ vacate-requires c =
     let m = c.highest-left.result.right in
     let r = c.highest-left.result.row in
     let q =
-      subst (λ p. Takes c.cut_off-slab.new.t c.cut_off-slab.result r p × (LeftOf c.cut_off-slab.new.t c.cut_off-slab.result n r p × (SpaceWall c.cut_off-slab.new.t n r c.wall_of-wall.result × RightOf c.cut_off-slab.new.t c.cut_off-slab.result m r p)))
-      (sym c.word-top.ensures.is) (
-        slab_takes t c.cut_off-slab.new.t i c.cut_off-slab.result r c.requires c.cut_off-slab.ensures c.highest-left.ensures.high,
+    subst (λ p. Takes c.cut_off-slab.new.t c.cut_off-slab.result r p × (LeftOf c.cut_off-slab.new.t c.cut_off-slab.result n r p × (SpaceWall c.cut_off-slab.new.t n r c.wall_of-wall.result × RightOf c.cut_off-slab.new.t c.cut_off-slab.result m r p)))
+    (sym c.word-top.ensures.is) (
+      slab_takes t c.cut_off-slab.new.t i c.cut_off-slab.result r c.requires c.cut_off-slab.ensures c.highest-left.ensures.high,
+      (
+        slab_left t c.cut_off-slab.new.t i c.cut_off-slab.result n r p r d c.cut_off-slab.ensures c.highest-left.ensures.left,
         (
-          slab_left t c.cut_off-slab.new.t i c.cut_off-slab.result n r p r d c.cut_off-slab.ensures c.highest-left.ensures.left,
-          (
-            slab_wall t c.cut_off-slab.new.t i c.cut_off-slab.result n r p r r c.wall_of-wall.result d c.requires.solid c.cut_off-slab.ensures c.highest-left.ensures.left c.wall_of-wall.ensures,
-            slab_right t c.cut_off-slab.new.t i c.cut_off-slab.result m r p r d c.cut_off-slab.ensures c.highest-left.ensures.right,
-          ),
+          slab_wall t c.cut_off-slab.new.t i c.cut_off-slab.result n r p r r c.wall_of-wall.result d c.requires.solid c.cut_off-slab.ensures c.highest-left.ensures.left c.wall_of-wall.ensures,
+          slab_right t c.cut_off-slab.new.t i c.cut_off-slab.result m r p r d c.cut_off-slab.ensures c.highest-left.ensures.right,
         ),
-      ) in
+      ),
+    ) in
     record { takes = q.0; left_of = q.1.0; space_wall = q.1.1.0; right_of = q.1.1.1 }
 
 pub returns-then-slab-i : goal.returns-then-slab-i

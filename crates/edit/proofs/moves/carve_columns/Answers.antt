@@ -15,8 +15,12 @@ carve_left-requires c =
     let a = c.args.a in
     let r = c.requires.columns in
     let x = c.carve_right.ensures.trim in
-    record { cuttable = cut_on t c.carve_right.new.t a a (num t a LEFT) (num t a BOTTOM)
-          c.args.right (num t a TOP) c.requires.cuttable x; left_shut = c.carve_right.ensures.left; a_bound = (omega arith, omega arith) }
+    record {
+      cuttable = cut_on t c.carve_right.new.t a a (num t a LEFT) (num t a BOTTOM)
+          c.args.right (num t a TOP) c.requires.cuttable x;
+      left_shut = c.carve_right.ensures.left;
+      a_bound = (omega arith, omega arith);
+    }
 
 pub returns : goal.returns
 returns c =

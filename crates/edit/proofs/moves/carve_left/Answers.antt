@@ -2,7 +2,8 @@
 use native.Mathlib.Omega.{arith}
 use mathlib.Core.Path.{refl}
 use Rattle.table.specs.Words.{BOTTOM, RIGHT, TOP, num}
-use Rattle.edit.specs.Carve.{cut_room, column_splits, left_piece, left_off, untrimmed}
+use Rattle.edit.specs.Carve.{column_splits, left_piece, left_off, untrimmed}
+use Rattle.edit.proofs.Carve.{cut_room}
 use Rattle.edit.proofs.moves.carve_left.Goals as goal
 
 pub free_record-j-requires : goal.free_record-j-requires

@@ -4,7 +4,8 @@ use mathlib.Core.Path.{refl}
 use Rattle.table.specs.Words.{LEFT, RIGHT, TOP, num}
 use Rattle.edit.specs.Tidy.{solid_is}
 use Rattle.edit.specs.Walls.{wall_beside}
-use Rattle.edit.specs.Carve.{cut_room, row_splits, lower_piece, lower_off, untrimmed, row_untrimmed}
+use Rattle.edit.specs.Carve.{row_splits, lower_piece, lower_off, untrimmed, row_untrimmed}
+use Rattle.edit.proofs.Carve.{cut_room}
 use Rattle.edit.proofs.moves.carve_lower.Goals as goal
 
 pub free_record-j-requires : goal.free_record-j-requires

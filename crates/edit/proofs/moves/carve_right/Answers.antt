@@ -2,7 +2,8 @@
 use native.Mathlib.Omega.{arith}
 use mathlib.Core.Path.{refl}
 use Rattle.table.specs.Words.{LEFT, BOTTOM, TOP, num}
-use Rattle.edit.specs.Carve.{cut_room, column_splits, right_piece, right_off, untrimmed}
+use Rattle.edit.specs.Carve.{column_splits, right_piece, right_off, untrimmed}
+use Rattle.edit.proofs.Carve.{cut_room}
 use Rattle.edit.proofs.moves.carve_right.Goals as goal
 
 pub free_record-right-requires : goal.free_record-right-requires

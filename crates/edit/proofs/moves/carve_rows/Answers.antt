@@ -18,8 +18,13 @@ carve_lower-requires c =
     let r = c.requires.rows in
     let x = c.carve_upper.ensures.trim in
     let wide = (c.requires.cuttable.tidy.whole.good.formed a (solid_is t a c.requires.cuttable.solid)).wide in
-    record { cuttable = cut_on t c.carve_upper.new.t a a (num t a LEFT) (num t a BOTTOM)
-          (num t a RIGHT) c.args.top c.requires.cuttable x; shut = c.carve_upper.ensures.shut; a_bound = (omega (arith, r, x.bottom), omega (arith, r, x.top)); wall_at = λ h. wall_keeps t c.carve_upper.new.t a a c.args.bottom c.args.wall wide x.left x.keeps (c.requires.wall_at (omega (arith, h, x.bottom))) }
+    record {
+      cuttable = cut_on t c.carve_upper.new.t a a (num t a LEFT) (num t a BOTTOM)
+          (num t a RIGHT) c.args.top c.requires.cuttable x;
+      shut = c.carve_upper.ensures.shut;
+      a_bound = (omega (arith, r, x.bottom), omega (arith, r, x.top));
+      wall_at = λ h. wall_keeps t c.carve_upper.new.t a a c.args.bottom c.args.wall wide x.left x.keeps (c.requires.wall_at (omega (arith, h, x.bottom)));
+    }
 
 pub returns : goal.returns
 returns c =

@@ -2,7 +2,8 @@
 use native.Mathlib.Omega.{arith}
 use mathlib.Core.Path.{refl}
 use Rattle.table.specs.Words.{LEFT, BOTTOM, RIGHT, num}
-use Rattle.edit.specs.Carve.{cut_room, row_splits, upper_piece, upper_off, untrimmed, row_untrimmed}
+use Rattle.edit.specs.Carve.{row_splits, upper_piece, upper_off, untrimmed, row_untrimmed}
+use Rattle.edit.proofs.Carve.{cut_room}
 use Rattle.edit.proofs.moves.carve_upper.Goals as goal
 
 pub free_record-upper-requires : goal.free_record-upper-requires

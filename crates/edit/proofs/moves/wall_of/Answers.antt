@@ -32,8 +32,13 @@ find-requires c =
     let i₃ = c.if-c-word.false in
     let i₄ = c.if-left-le-LOW.false in
     let v : SpaceIn t n = record { below = omega arith; kind = omega arith } in
-    record { forms = c.requires.forms; size_right = c.requires.size_right; used_in = c.start-from.ensures; in_plane = wall_cell t n c.args.c c.word-left.result (forms_tidy t c.requires.forms c.requires.size_right.most) v c.word-left.ensures.is (omega arith) (omega arith)
-              (c.requires.c_bound v.below) }
+    record {
+      forms = c.requires.forms;
+      size_right = c.requires.size_right;
+      used_in = c.start-from.ensures;
+      in_plane = wall_cell t n c.args.c c.word-left.result (forms_tidy t c.requires.forms c.requires.size_right.most) v c.word-left.ensures.is (omega arith) (omega arith)
+          (c.requires.c_bound v.below);
+    }
 
 pub returns : goal.returns
 returns c q e h =

@@ -1,9 +1,7 @@
 -- `edit::steps::clear_record` meets its contract. The loop's invariant: the words before k are zeros, and no other record is touched. Assumes nothing.
-use Prim.Native.Nat.{◌-◌}
 use native.Mathlib.Omega.{arith}
 use Rattle.geometry.specs.Picture.{ZERO}
-use Rattle.table.specs.Words.{WIDTH}
-use Rattle.edit.specs.Writes.{Filled, filled_none, filled_more, filled_all}
+use Rattle.edit.specs.Writes.{filled_none, filled_more, filled_all}
 use Rattle.edit.proofs.steps.clear_record.Goals as goal
 
 pub loop-k-init : goal.loop-k-init

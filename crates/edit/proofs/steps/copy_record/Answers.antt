@@ -1,8 +1,6 @@
 -- `edit::steps::copy_record` meets its contract. The loop's invariant: the words before k are copied, and no other record is touched. Assumes nothing.
-use Prim.Native.Nat.{◌-◌}
 use native.Mathlib.Omega.{arith}
-use Rattle.table.specs.Words.{WIDTH, num}
-use Rattle.edit.specs.Writes.{Filled, filled_none, filled_all, copied_more}
+use Rattle.edit.specs.Writes.{filled_none, filled_all, copied_more}
 use Rattle.edit.proofs.steps.copy_record.Goals as goal
 
 pub loop-k-init : goal.loop-k-init

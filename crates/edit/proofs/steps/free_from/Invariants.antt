@@ -1,9 +1,7 @@
 -- `edit::steps::free_from` meets its contract. The loop's invariant: no record passed is free. Assumes nothing.
-use mathlib.Core.Path.{sym, ◌∙◌}
 use Prim.Native.Nat.{◌-◌}
-use native.Mathlib.Omega.{arith}
 use Rattle.table.specs.Words.{records_of}
-use Rattle.edit.specs.Free.{NoneFree, none_free_start, none_free_more}
+use Rattle.edit.specs.Free.{NoneFree}
 use Rattle.edit.proofs.steps.free_from.Given as goal
 
 abbrev pub invariant-loop-k : goal.invariant-loop-k

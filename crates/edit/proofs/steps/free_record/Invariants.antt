@@ -1,9 +1,4 @@
 -- `edit::steps::free_record` meets its contract. The measure of the loop is what `spot` still holds. Assumes nothing.
-use Prim.Native.Nat.{◌<◌}
-use native.Mathlib.Omega.{arith}
-use Rattle.table.specs.Words.{records_of}
-use Rattle.geometry.specs.Cases.{yes}
-use Rattle.edit.specs.Free.{first_free}
 use Rattle.edit.proofs.steps.free_record.Given as goal
 
 abbrev pub invariant-loop-s : goal.invariant-loop-s

@@ -4,7 +4,7 @@ use mathlib.Core.Path.{sym, ◌∙◌}
 use Prim.Native.Nat.{◌<◌}
 use native.Mathlib.Omega.{arith}
 use Rattle.table.specs.Words.{records_of}
-use Rattle.edit.specs.Loops.{Beside, Coming, beside_start, beside_next, coming_start, coming_next, coming_ends, naming, naming_less}
+use Rattle.edit.specs.Loops.{beside_start, beside_next, coming_start, coming_next, coming_ends, naming_less}
 use Rattle.edit.proofs.steps.repoint.Goals as goal
 
 pub loop-k-init : goal.loop-k-init

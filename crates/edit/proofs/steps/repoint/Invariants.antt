@@ -1,10 +1,6 @@
 -- `edit::steps::repoint` meets its contract. The loop's invariant: what lies before k is turned, for every plane whose side these words are.
 -- The measure: how many stitches still name a. Assumes nothing.
-use mathlib.Core.Path.{sym, ◌∙◌}
-use Prim.Native.Nat.{◌<◌}
-use native.Mathlib.Omega.{arith}
-use Rattle.table.specs.Words.{records_of}
-use Rattle.edit.specs.Loops.{Beside, Coming, beside_start, beside_next, coming_start, coming_next, coming_ends, naming, naming_less}
+use Rattle.edit.specs.Loops.{Beside, Coming, naming}
 use Rattle.edit.proofs.steps.repoint.Given as goal
 
 abbrev pub invariant-loop-k : goal.invariant-loop-k

@@ -2,7 +2,7 @@
 use Prim.Native.Nat.{◌≤◌, ◌<◌}
 use native.Mathlib.Omega.{arith}
 use Rattle.table.specs.Words.{records_of, num}
-use Rattle.edit.specs.Ways.{Going, plain, going_start, going_none, falls_on, falls_less, falls_ends}
+use Rattle.edit.specs.Ways.{plain, going_start, going_none, falls_on, falls_less, falls_ends}
 use Rattle.edit.proofs.steps.walk_down.Goals as goal
 
 pub loop-k-init : goal.loop-k-init

@@ -1,8 +1,6 @@
 -- `edit::steps::walk_down` meets its contract. The loop's invariant: k is on the side, at q or before it. The numbers fall. Assumes nothing.
-use Prim.Native.Nat.{◌≤◌, ◌<◌}
-use native.Mathlib.Omega.{arith}
-use Rattle.table.specs.Words.{records_of, num}
-use Rattle.edit.specs.Ways.{Going, plain, going_start, going_none, falls_on, falls_less, falls_ends}
+use Rattle.table.specs.Words.{num}
+use Rattle.edit.specs.Ways.{Going, plain}
 use Rattle.edit.proofs.steps.walk_down.Given as goal
 
 abbrev pub invariant-loop-k : goal.invariant-loop-k

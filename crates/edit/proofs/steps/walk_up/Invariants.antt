@@ -1,9 +1,8 @@
 -- `edit::steps::walk_up` meets its contract. The loop's invariant: k is on the side, at q or before it. The numbers rise. Assumes nothing.
-use Prim.Native.Nat.{◌≤◌, ◌<◌, ◌-◌, ◌+◌}
-use native.Mathlib.Omega.{arith}
+use Prim.Native.Nat.{◌-◌, ◌+◌}
 use Rattle.geometry.specs.Turns.{opp}
-use Rattle.table.specs.Words.{records_of, num}
-use Rattle.edit.specs.Ways.{Going, going_start, going_none, rises_on, rises_more, rises_ends}
+use Rattle.table.specs.Words.{num}
+use Rattle.edit.specs.Ways.{Going}
 use Rattle.edit.proofs.steps.walk_up.Given as goal
 
 abbrev pub invariant-loop-k : goal.invariant-loop-k

@@ -1,7 +1,6 @@
 -- `layout::saving::collect` meets its contract: the keys of the records passed are collected. Assumes nothing.
 use mathlib.Core.Path.{sym, ◌∙◌}
-use mathlib.Core.Logic.{⊎_elim}
-use Prim.Native.Nat.{◌-◌, ◌<◌}
+use Prim.Native.Nat.{◌<◌}
 use native.Mathlib.Omega.{arith}
 use Rattle.table.specs.Words.{records_of}
 use borrow.Author.Tests.{eq-eqb, ne_eqb}
@@ -9,7 +8,7 @@ use Rattle.geometry.specs.Picture.{SOLID}
 use Rattle.geometry.specs.Tiling.{eq→eqb}
 use Rattle.table.specs.Words.{KIND, num}
 use Rattle.table.specs.Sound.{solid_at}
-use Rattle.sorting.specs.Keys.{keys_room, Collecting, collecting_none, collecting_yes, collecting_no, collected}
+use Rattle.sorting.specs.Keys.{keys_room, collecting_none, collecting_yes, collecting_no, collected}
 use Rattle.layout.specs.Keys.{key}
 use Rattle.layout.proofs.saving.collect.Goals as goal
 use Rattle.layout.proofs.saving.collect.Goals.{then-word-eq-SOLID, else-word-eq-SOLID}
@@ -47,10 +46,10 @@ loop-i-preserved c =
     let h : l.i < records_of t = omega arith in
     let is = c.word.ensures.is in
     elim c.if-word-eq-SOLID.branch [
-      then-word-eq-SOLID w ↦ rw (w.keys-is, w.n-is, w.key.ensures)
-        (collecting_yes (solid_at t) (key t) (records_of t) a.keys.now l.keys l.i l.n l.invariant h c.requires.t_in_bounds (eq-eqb (num t l.i KIND) SOLID (sym is ∙ w.if-word-eq-SOLID.true)))
-    | else-word-eq-SOLID w ↦ rw (w.keys-is, w.n-is)
-        (collecting_no (solid_at t) (key t) (records_of t) a.keys.now l.keys l.i l.n l.invariant h (ne_eqb (num t l.i KIND) SOLID (λ e. w.if-word-eq-SOLID.false (is ∙ e))))
+      | then-word-eq-SOLID w ↦ rw (w.keys-is, w.n-is, w.key.ensures)
+          (collecting_yes (solid_at t) (key t) (records_of t) a.keys.now l.keys l.i l.n l.invariant h c.requires.t_in_bounds (eq-eqb (num t l.i KIND) SOLID (sym is ∙ w.if-word-eq-SOLID.true)))
+      | else-word-eq-SOLID w ↦ rw (w.keys-is, w.n-is)
+          (collecting_no (solid_at t) (key t) (records_of t) a.keys.now l.keys l.i l.n l.invariant h (ne_eqb (num t l.i KIND) SOLID (λ e. w.if-word-eq-SOLID.false (is ∙ e))))
     ]
 
 pub shape_of-keys : goal.shape_of-keys

@@ -1,15 +1,8 @@
 -- `layout::saving::collect` meets its contract: the keys of the records passed are collected. Assumes nothing.
-use mathlib.Core.Path.{sym, ◌∙◌}
-use mathlib.Core.Logic.{⊎_elim}
-use Prim.Native.Nat.{◌-◌, ◌<◌}
-use native.Mathlib.Omega.{arith}
+use Prim.Native.Nat.{◌-◌}
 use Rattle.table.specs.Words.{records_of}
-use borrow.Author.Tests.{eq-eqb, ne_eqb}
-use Rattle.geometry.specs.Picture.{SOLID}
-use Rattle.geometry.specs.Tiling.{eq→eqb}
-use Rattle.table.specs.Words.{KIND, num}
 use Rattle.table.specs.Sound.{solid_at}
-use Rattle.sorting.specs.Keys.{keys_room, Collecting, collecting_none, collecting_yes, collecting_no, collected}
+use Rattle.sorting.specs.Keys.{Collecting}
 use Rattle.layout.specs.Keys.{key}
 use Rattle.layout.proofs.saving.collect.Given as goal
 

@@ -4,7 +4,8 @@ use Prim.Native.Nat.{◌≤◌}
 use native.Mathlib.Omega.{arith}
 use lib.ListN.{length, length-take}
 use lib.Seq.{length-take-le}
-use Rattle.layout.specs.Saving.{back_count, back_fits, back_below, saves}
+use Rattle.layout.specs.Saving.{back_count, back_fits, back_below}
+use Rattle.layout.proofs.Saves.{saves}
 use Rattle.layout.proofs.saving.save_by.Goals as goal
 
 pub slice_bounds-sort-end-2 : goal.slice_bounds-sort-end-2

@@ -1,8 +1,7 @@
 -- `layout::saving::write_all` meets its contract: the records of the keys passed are written. Assumes nothing.
 use Prim.Native.Nat.{◌-◌}
-use native.Mathlib.Omega.{arith}
 use lib.ListN.{length}
-use Rattle.layout.specs.Saving.{Writing, writing_none, writing_more, written}
+use Rattle.layout.specs.Saving.{Writing}
 use Rattle.layout.proofs.saving.write_all.Given as goal
 
 abbrev pub invariant-loop-k : goal.invariant-loop-k

@@ -1,10 +1,7 @@
 -- `sound::records::blank` meets its contract. The loop's invariant: the words passed are zero. Assumes nothing.
-use mathlib.Core.Path.{◌≡◌, sym, ◌∙◌}
-use Prim.Native.Nat.{ℕ, ◌≤◌, ◌<◌, ◌-◌}
+use mathlib.Core.Path.{sym, ◌∙◌}
 use native.Mathlib.Omega.{arith}
 use borrow.Author.Count.{below_none, below_more}
-use Rattle.geometry.specs.Picture.{ZERO}
-use Rattle.table.specs.Words.{WIDTH, num}
 use Rattle.sound.proofs.records.blank.Goals as goal
 
 pub loop-k-init : goal.loop-k-init

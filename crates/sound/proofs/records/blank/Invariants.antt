@@ -1,8 +1,6 @@
 -- `sound::records::blank` meets its contract. The loop's invariant: the words passed are zero. Assumes nothing.
-use mathlib.Core.Path.{◌≡◌, sym, ◌∙◌}
+use mathlib.Core.Path.{◌≡◌}
 use Prim.Native.Nat.{ℕ, ◌≤◌, ◌<◌, ◌-◌}
-use native.Mathlib.Omega.{arith}
-use borrow.Author.Count.{below_none, below_more}
 use Rattle.geometry.specs.Picture.{ZERO}
 use Rattle.table.specs.Words.{WIDTH, num}
 use Rattle.sound.proofs.records.blank.Given as goal

@@ -1,9 +1,8 @@
 -- `sound::records::tally` meets its contract. The loop's invariant: each record passed was found right, and the sums are those over them. Assumes nothing.
 use mathlib.Core.Path.{subst}
-use Prim.Native.Nat.{◌≤◌, ◌-◌}
 use native.Mathlib.Omega.{arith}
 use Rattle.sound.specs.Links.{Tested}
-use Rattle.sound.specs.Tally.{Summed, summed_none, summed_more, summed_all}
+use Rattle.sound.specs.Tally.{summed_none, summed_more, summed_all}
 use borrow.Author.Rules.{rules}
 use Rattle.sound.proofs.records.tally.Goals as goal
 

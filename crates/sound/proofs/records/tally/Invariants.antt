@@ -1,9 +1,6 @@
 -- `sound::records::tally` meets its contract. The loop's invariant: each record passed was found right, and the sums are those over them. Assumes nothing.
-use mathlib.Core.Path.{subst}
 use Prim.Native.Nat.{◌≤◌, ◌-◌}
-use native.Mathlib.Omega.{arith}
-use Rattle.sound.specs.Links.{Tested}
-use Rattle.sound.specs.Tally.{Summed, summed_none, summed_more, summed_all}
+use Rattle.sound.specs.Tally.{Summed}
 use Rattle.sound.proofs.records.tally.Given as goal
 
 abbrev pub invariant-loop-i : goal.invariant-loop-i

@@ -1,7 +1,5 @@
 -- `sound::sides::all_beside` meets its contract. The loop's invariant: each tile passed lies right. Assumes nothing.
-use mathlib.Core.Bool.{true}
 use mathlib.Core.Path.{subst}
-use Prim.Native.Nat.{ℕ, ◌≤◌, ◌<◌, ◌-◌}
 use native.Mathlib.Omega.{arith}
 use borrow.Author.Count.{below_none, below_more}
 use Rattle.sound.specs.Sides.{Beside, all_beside, not_beside}

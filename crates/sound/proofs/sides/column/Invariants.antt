@@ -1,8 +1,6 @@
 -- `sound::sides::column` meets its contract. The loop's invariant is `Walked`; the walk ends because bottom falls. Assumes nothing.
-use native.Mathlib.Omega.{arith}
 use Rattle.table.specs.Words.{BOTTOM, num}
-use Rattle.geometry.specs.Cases.{yes, no}
-use Rattle.sound.specs.Columns.{Walked, walk_start, walk_on, falls, walk_ends, walk_stops}
+use Rattle.sound.specs.Columns.{Walked}
 use Rattle.sound.proofs.sides.column.Given as goal
 
 abbrev pub invariant-loop-at : goal.invariant-loop-at

@@ -1,9 +1,6 @@
 -- `sound::sides::corner` meets its contract. The loop's invariant: no record passed holds the corner. Assumes nothing.
-use Prim.Native.Nat.{ℕ, ◌≤◌, ◌<◌, ◌-◌}
 use native.Mathlib.Omega.{arith}
 use borrow.Author.Count.{below_none, below_more}
-use Rattle.geometry.specs.Picture.{LOW, HIGH, Has}
-use Rattle.table.specs.Words.{tile_of}
 use Rattle.geometry.specs.Cases.{yes, no}
 use borrow.Author.Rules.{rules}
 use Rattle.sound.proofs.sides.corner.Goals as goal

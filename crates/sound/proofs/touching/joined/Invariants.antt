@@ -1,9 +1,6 @@
 -- `sound::touching::joined` meets its contract. The loop's invariant: each record passed has its looks. Assumes nothing.
 use Prim.Native.Nat.{ℕ, ◌≤◌, ◌<◌, ◌-◌}
-use native.Mathlib.Omega.{arith}
-use borrow.Author.Count.{below_none, below_more}
-use Rattle.geometry.specs.Cases.{yes, no}
-use Rattle.sound.specs.Touching.{LooksAt, holds, fails, looks_all, not_looks}
+use Rattle.sound.specs.Touching.{LooksAt}
 use Rattle.sound.proofs.touching.joined.Given as goal
 
 abbrev pub invariant-loop-i : goal.invariant-loop-i

@@ -1,8 +1,6 @@
 -- `sound::touching::last_right` meets its contract. Every tile that the loop meets begins at the right side of a, and bottoms fall. Assumes nothing.
-use mathlib.Core.Path.{◌≡◌}
 use native.Mathlib.Omega.{arith}
-use Rattle.table.specs.Words.{num, BOTTOM}
-use Rattle.sound.specs.Touching.{GoingDown, down_start, down_next, down_ends}
+use Rattle.sound.specs.Touching.{down_start, down_next, down_ends}
 use Rattle.sound.proofs.touching.last_right.Goals as goal
 
 pub loop-k-init : goal.loop-k-init

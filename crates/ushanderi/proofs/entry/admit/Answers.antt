@@ -1,7 +1,7 @@
 use mathlib.Core.Path.{refl, sym, ap, subst}
 use lib.Dec.{T}
 use Rattle.geometry.specs.Cases.{yes, no}
-use Rattle.table.specs.Forms.{sound_forms, forms_sound}
+use Rattle.table.proofs.Forms.{sound_forms, forms_sound}
 use Rattle.ushanderi.specs.Entry.{size, unsound, fit}
 use Rattle.ushanderi.specs.declared.entry.Entry.TheVariants.{Sound}
 use Rattle.ushanderi.proofs.entry.admit.Goals as goal

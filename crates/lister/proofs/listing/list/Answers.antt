@@ -4,10 +4,8 @@ use native.Mathlib.Omega.{arith}
 use Rattle.lister.specs.Listing.{load_well, lists_tiles, load_not, lists_refused}
 use Rattle.lister.proofs.listing.list.Goals as goal
 
-pub put_plane-requires : goal.put_plane-requires
-put_plane-requires c =
-    let (f, l) = load_well _ _ _ _ c.load-a.ensures c.if-a-eq-DONE.true in
-    record { fit = f; t_in_bounds = omega (arith, c.requires.words, c.requires.entries); t_in_bounds_2 = omega (arith, c.requires.words, c.requires.room) }
+pub put_plane-requires-clause-fit : goal.put_plane-requires-clause-fit
+put_plane-requires-clause-fit c = (load_well _ _ _ _ c.load-a.ensures c.if-a-eq-DONE.true).0
 
 pub returns-then-a-eq-DONE : goal.returns-then-a-eq-DONE
 returns-then-a-eq-DONE c =

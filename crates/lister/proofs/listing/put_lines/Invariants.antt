@@ -1,8 +1,7 @@
 -- `lister::listing::put_lines` meets its contract: the lines of the entries passed are put. Assumes nothing.
 use Prim.Native.Nat.{◌-◌}
-use native.Mathlib.Omega.{arith}
 use lib.ListN.{length}
-use Rattle.lister.specs.Listing.{Putting, putting_none, putting_more, putting_all}
+use Rattle.lister.specs.Listing.{Putting}
 use Rattle.lister.proofs.listing.put_lines.Given as goal
 
 abbrev pub invariant-loop-n : goal.invariant-loop-n

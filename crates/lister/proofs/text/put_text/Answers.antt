@@ -1,15 +1,11 @@
 -- `lister::text::put_text` meets its contract: i bytes of the text are written. Assumes nothing.
 use borrow.Author.Rules.{rules}
-use mathlib.Core.Path.{◌≡◌, refl, ap, ◌∙◌}
-use Prim.Native.Nat.{◌+◌, ◌-◌, ◌≤◌, ◌<◌}
+use mathlib.Core.Path.{◌≡◌, ap, ◌∙◌}
+use Prim.Native.Nat.{◌+◌, ◌<◌}
 use native.Mathlib.Omega.{arith}
 use lib.ListN.{length, length-set}
-use lib.Seq.{paste, paste-zero}
 use Rattle.layout.specs.Patch.{pasted_more, pasted_all}
 use Rattle.lister.proofs.text.put_text.Goals as goal
-
-pub loop-i-init : goal.loop-i-init
-loop-i-init c = (omega arith, refl, paste-zero c.args.out.now c.args.at c.args.text.now)
 
 pub loop-i-preserved : goal.loop-i-preserved
 loop-i-preserved c =
@@ -20,9 +16,6 @@ loop-i-preserved c =
       length-set l.out (a.at + l.i) _ ∙ l.invariant.1,
       rw l.invariant.2 (pasted_more a.out.now a.at a.text.now l.i (omega arith) k),
     )
-
-pub shape_of-out : goal.shape_of-out
-shape_of-out c = c.loop-i.invariant.1
 
 pub returns : goal.returns
 returns c =

@@ -56,6 +56,7 @@ unfolding without
 without_among x y (v ∷ S) w (Memᴰ.head e) n =
     unless_head (holds v x y) v w (without x y S) (λ t. n (subst (λ v. Has v x y) (sym e) (holds_has v x y t))) e
 without_among x y (v ∷ S) w (Memᴰ.tail m) n = unless_tail (holds v x y) v w (without x y S) (without_among x y S w m n)
+without_among x y [] w x3 n = elim x3 [ ]
 
 distinct_unless : (b : Bool) (v : Tile) (S : List Tile) → (Among S v → ⊥) → Distinct S → Distinct (unless b v S)
 distinct_unless true v S n d = d
@@ -100,6 +101,7 @@ at_among (v ∷ S) (suc k) h = Memᴰ.tail (at_among S k (le_of_suc-le-suc h))
 pub among_at : (S : List Tile) (w : Tile) → Among S w → (k : ℕ) × (k < length S) × (get_or S k blank ≡ w)
 among_at (v ∷ S) w (Memᴰ.head e) = (0, omega arith, sym e)
 among_at (v ∷ S) w (Memᴰ.tail m) = let (k, h, e) = among_at S w m in (suc k, omega arith, e)
+among_at [] w x' = elim x' [ ]
 
 pub distinct_at : (S : List Tile) → Distinct S → (j k : ℕ) → j < length S → k < length S → get_or S j blank ≡ get_or S k blank → j ≡ k
 distinct_at [] none j k h l e = absurd (not-suc-le-zero h)

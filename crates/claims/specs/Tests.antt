@@ -28,6 +28,7 @@ some_below_lem : (p : ℕ → Bool) (n : ℕ) → T (some_below p n) → (k : �
 unfolding some_below
 some_below_lem p (suc n) b =
     or_cases (p n) (some_below p n) b (λ c. (n, omega arith, c)) (λ c. let (k, h, d) = some_below_lem p n c in (k, omega arith, d))
+some_below_lem p zero b = elim b [ ]
 
 -- ---- what a table draws
 
@@ -49,6 +50,7 @@ amongb_among : (v : Tile) (vs : List Tile) → T (amongb v vs) → Among vs v
 unfolding amongb
 amongb_among v (w ∷ vs) b =
     or_cases (tileb v w) (amongb v vs) b (λ c. Memᴰ.head (tileb_same v w c)) (λ c. Memᴰ.tail (amongb_among v vs c))
+amongb_among v [] b = elim b [ ]
 
 -- record i is the solid v
 abbrev isb : List ℤ → Tile → ℕ → Bool
@@ -70,6 +72,7 @@ shownb_shows t (w ∷ vs) b v (Memᴰ.head e) =
     }
 shownb_shows t (w ∷ vs) b v (Memᴰ.tail m) =
     shownb_shows t vs (and_r (some_below (isb t w) (records_of t)) (shownb t vs) b) v m
+shownb_shows t [] b v x'' = elim x'' [ ]
 
 -- every solid is among them, and each of them is a solid
 abbrev memberb : List ℤ → List Tile → ℕ → Bool

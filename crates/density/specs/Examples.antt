@@ -49,7 +49,7 @@ of_two = refl
 
 -- ---- windows of 4 by 4 in 4 8 12 16: two rows of two, from the top
 
-abbrev four : Area
+abbrev pub four : Area
 four = area 4 8 12 16
 
 pub four_steps : Steps four 4 4
@@ -124,7 +124,7 @@ no_longer s = omega (arith, s.rows)
 
 -- ---- shares, by the bits of their floats
 
-abbrev bits : ℕ → Float
+abbrev pub bits : ℕ → Float
 bits n = Ieee.of_bits binary64 n
 
 -- 0.0 and 1.0
@@ -146,63 +146,3 @@ quarter_share = refl
 pub third_share : share_of 1 3 ≡ bits 4599676419421066581
 unfolding share_of Ieee.of_bits Ieee.of_int Ieee.div
 third_share = refl
-
--- ---- the report on those four windows, into a list of five entries: the last one is kept
-
-abbrev sevens : List Float
-sevens = float 7 ∷ float 7 ∷ float 7 ∷ float 7 ∷ float 7 ∷ []
-
--- 3, 4, 8 and 4 of 16
-abbrev shares : List Float
-shares = bits 4595923419731591168 ∷ bits 4598175219545276416 ∷ bits 4602678819172646912 ∷ bits 4598175219545276416 ∷ float 7 ∷ []
-
-abbrev report : Report
-report = record { lowest = bits 4595923419731591168; highest = bits 4602678819172646912; covered = 19 }
-
-each : (P : ℕ → Type 0) → P 0 → P 1 → P 2 → P 3 → (m : ℕ) → m < 4 → P m
-each P a b c d zero l = a
-each P a b c d (suc zero) l = b
-each P a b c d (suc (suc zero)) l = c
-each P a b c d (suc (suc (suc zero))) l = d
-each P a b c d (suc (suc (suc (suc m)))) l = absurd (omega arith)
-
-past : (m : ℕ) → 4 ≤ m → get_or shares m (float 0) ≡ get_or sevens m (float 0)
-past zero l = absurd (omega arith)
-past (suc zero) l = absurd (omega arith)
-past (suc (suc zero)) l = absurd (omega arith)
-past (suc (suc (suc zero))) l = absurd (omega arith)
-past (suc (suc (suc (suc m)))) l = refl
-
-four_written : Written abc four 4 4 sevens shares 4
-unfolding abc num ruler sum_to count any_to covered share_of Ieee.of_bits Ieee.of_int Ieee.div
-four_written =
-    record { long = refl; shares = each (λ m. get_or shares m (float 0) ≡ share_of (count_of abc four 4 4 m) 16) refl refl refl refl; rest = past }
-
-four_lowest : Lowest (count_of abc four 4 4) 4 3
-four_lowest = record {
-  at = 0;
-  below = omega arith;
-  is = first_count;
-  least = each (λ m. 3 ≤ count_of abc four 4 4 m) (omega (arith, first_count)) (omega (arith, second_count)) (omega (arith, third_count)) (omega (arith, fourth_count));
-}
-
-four_highest : Highest (count_of abc four 4 4) 4 8
-four_highest = record {
-  at = 2;
-  below = omega arith;
-  is = third_count;
-  most = each (λ m. count_of abc four 4 4 m ≤ 8) (omega (arith, first_count)) (omega (arith, second_count)) (omega (arith, third_count)) (omega (arith, fourth_count));
-}
-
-pub four_report : Reports abc four 4 4 sevens shares report
-unfolding abc num ruler sum_to count any_to covered share_of Ieee.of_bits Ieee.of_int Ieee.div
-four_report = record {
-  written = four_written;
-  least = 3;
-  least_is = four_lowest;
-  lowest = refl;
-  most = 8;
-  most_is = four_highest;
-  highest = refl;
-  total = refl;
-}

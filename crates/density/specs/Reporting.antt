@@ -51,11 +51,11 @@ most_at (suc (suc n)) f h =
     let (k, l, e) = most_at (suc n) f (omega arith) in
     lt_cases (most_to (suc n) f) (f (suc n)) (λ c. (suc n, omega arith, omega arith)) (λ c. (k, omega arith, omega arith))
 
-least_next : (n top : ℕ) (f : ℕ → ℕ) → least_to (n + 1) top f ≡ min (least_to n top f) (f n)
+pub least_next : (n top : ℕ) (f : ℕ → ℕ) → least_to (n + 1) top f ≡ min (least_to n top f) (f n)
 unfolding least_to
 least_next n top f = ap (λ k. least_to k top f) (add-one n)
 
-most_next : (n : ℕ) (f : ℕ → ℕ) → most_to (n + 1) f ≡ max (most_to n f) (f n)
+pub most_next : (n : ℕ) (f : ℕ → ℕ) → most_to (n + 1) f ≡ max (most_to n f) (f n)
 unfolding most_to
 most_next n f = ap (λ k. most_to k f) (add-one n)
 
@@ -76,31 +76,6 @@ report_starts t A w h old = record {
   lowest = refl;
   highest = refl;
   total = refl;
-}
-
-pub written_on : (t : List ℤ) (A : Area) (w h : ℕ) (old new : List Float) (n c : ℕ) (s : Float) → Written t A w h old new n → n < length new
-    → c ≡ count_of t A w h n → s ≡ share_of c (w * h) → Written t A w h old (set new n s) (n + 1)
-written_on t A w h old new n c s r l e d = record {
-  long = length-set new n s ∙ r.long;
-  shares = λ m k.
-      lt_cases m n (λ b. get_or-set_other new n m s (float 0) (λ q. omega arith) ∙ r.shares m b)
-      (λ b.
-      let q : m ≡ n = omega arith in
-      subst (λ m. get_or (set new n s) m (float 0) ≡ share_of (count_of t A w h m) (w * h)) (sym q)
-      (get_or-set_same new n s (float 0) l ∙ d ∙ ap (λ c. share_of c (w * h)) e));
-  rest = λ m k. get_or-set_other new n m s (float 0) (λ q. omega arith) ∙ r.rest m (omega arith);
-}
-
-pub report_on : (t : List ℤ) (A : Area) (w h : ℕ) (old new : List Float) (n lowest highest total c : ℕ) (s : Float)
-    → Reporting t A w h old new n lowest highest total → n < windows_of A w h → n < length new → c ≡ count_of t A w h n
-    → s ≡ share_of c (w * h)
-    → Reporting t A w h old (set new n s) (n + 1) (min lowest c) (max highest c) (total + c)
-report_on t A w h old new n lowest highest total c s r l b e d = record {
-  to = omega arith;
-  written = written_on t A w h old new n c s r.written b e d;
-  lowest = ap₂ min r.lowest e ∙ sym (least_next n (w * h) (count_of t A w h));
-  highest = ap₂ max r.highest e ∙ sym (most_next n (count_of t A w h));
-  total = ap₂ ◌+◌ r.total e ∙ sym (sum_next n (count_of t A w h));
 }
 
 -- a window is not larger than the plane

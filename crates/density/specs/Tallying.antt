@@ -7,7 +7,7 @@ use Rattle.seek.specs.Meaning.{Area, RectRight}
 use Rattle.density.specs.Meaning.{Steps, windows_of, count_of}
 use Rattle.density.specs.Shares.{float, share_of}
 use Rattle.density.specs.Counts.{Counted, read_any, float_back}
-use Rattle.density.specs.Reporting.{Reporting, report_on, small, count_most, total_small}
+use Rattle.density.specs.Reporting.{Reporting, small, count_most, total_small}
 
 -- where the loop starts: the list holds the count of every window, and `many` is how many there are
 pub record Ready (t : List ℤ) (A : Area) (w h many : ℕ) (old : List Float) : Type 0 where
@@ -41,12 +41,3 @@ module _ (t : List ℤ) (A : Area) (w h many : ℕ) (old new : List Float) (n lo
 
   pub tally_sum : sum + Ieee.to_unsigned 64 (get_or new n nan) ≤ 2 ^ 50
   tally_sum = omega (arith, total_small t A r.rect w h r.steps n tally_one, d.total, tally_back.1)
-
-pub tally_on : (t : List ℤ) (w h many : ℕ) (old new : List Float) (n low high sum : ℕ) (s : Float)
-    → Tallying t w h many old new n low high sum → n < many → let c = Ieee.to_unsigned 64 (get_or new n nan) in s ≡ share_of c (w * h)
-    → Tallying t w h many old (set new n s) (n + 1) (min low c) (max high c) (sum + c)
-tally_on t w h many old new n low high sum s d l e A r =
-    let p = d A r in
-    report_on t A w h old new n low high sum (Ieee.to_unsigned 64 (get_or new n nan)) s p
-    (tally_one t A w h many old new n low high sum r p l) (tally_in t A w h many old new n low high sum r p l)
-    (tally_back t A w h many old new n low high sum r p l).1 e

@@ -11,7 +11,7 @@ pub(crate) enum Input {
     Failed,
 }
 
-// Within until the lent bytes are full, the input ends or a read fails, which is told on standard error.
+// Reads until the lent bytes are full, the input ends or a read fails, which is told on standard error.
 pub(crate) fn read_layout<R: Eprint, I: Read>(rt: &R, input: &mut I, bytes: &mut [u8]) -> Input
     requires { length bytes.old ≡ BYTES }
     ensures within { Within result bytes.new }

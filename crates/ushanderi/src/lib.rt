@@ -4,7 +4,6 @@
 pub mod answer;
 pub mod editing;
 mod entry;
-pub mod host;
 pub mod layouts;
 pub mod plane;
 pub mod reading;

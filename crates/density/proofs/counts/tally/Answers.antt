@@ -14,7 +14,8 @@ use Rattle.density.specs.Meaning.{Steps, windows_of}
 use Rattle.density.specs.Counts.{Counted}
 use Rattle.density.specs.Shares.{share_of}
 use Rattle.density.specs.Reporting.{Reporting, windows_small, report_starts, report_ends, small, lowest_small, highest_small}
-use Rattle.density.specs.Tallying.{Ready, Tallying, tally_in, tally_back, tally_sum, tally_on}
+use Rattle.density.specs.Tallying.{Ready, Tallying, tally_in, tally_back, tally_sum}
+use Rattle.density.proofs.Written.{tally_on}
 use Rattle.density.proofs.counts.tally.Goals as goal
 
 -- what the calls before the loop found of the area

@@ -9,7 +9,7 @@ use lib.ListN.{length, get_or}
 use Rattle.seek.specs.Enumerate.{area_of}
 use Rattle.density.specs.Shares.{share_of}
 use Rattle.density.specs.Reporting.{Reporting, windows_small, report_starts, report_ends, small, lowest_small, highest_small}
-use Rattle.density.specs.Tallying.{Ready, Tallying, tally_in, tally_back, tally_sum, tally_on}
+use Rattle.density.specs.Tallying.{Ready, Tallying, tally_in, tally_back, tally_sum}
 use Rattle.density.proofs.counts.tally.Given as goal
 
 abbrev pub invariant-loop-n : goal.invariant-loop-n

@@ -101,11 +101,10 @@ loop-from-smaller c =
     omega (arith, part_less _ _ _ _ c.requires.part_fits _ _ _ _ p.goes c.loop-from-test.true c.larger-to.ensures, c.loop-from-test.true)
 
 pub loop-from-preserved : goal.loop-from-preserved
-loop-from-preserved c =
-    (
-      c.add_row.auto.out ∙ c.loop-from.invariant.0,
-      λ A s. parting_on _ _ _ _ _ _ _ _ _ _ s _ _ _ _ _ _ (c.loop-from.invariant.1 A s) c.loop-from-test.true c.larger-to.ensures c.loop-from.invariant.0 c.add_row.ensures,
-    )
+loop-from-preserved c = (
+  c.add_row.auto.out ∙ c.loop-from.invariant.0,
+  λ A s. parting_on _ _ _ _ _ _ _ _ _ _ s _ _ _ _ _ _ (c.loop-from.invariant.1 A s) c.loop-from-test.true c.larger-to.ensures c.loop-from.invariant.0 c.add_row.ensures,
+)
 
 pub shape_of-out : goal.shape_of-out
 shape_of-out c = c.loop-from.invariant.0

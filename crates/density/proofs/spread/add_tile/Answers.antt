@@ -8,8 +8,12 @@ use Rattle.density.proofs.spread.add_tile.Goals as goal
 
 pub add_part-requires : goal.add_part-requires
 add_part-requires c =
-    record { part_fits = subst (PartFits (area_of c.args.area) c.args.w c.args.h) (sym c.part_of-part.ensures)
-          (part_fits _ c.requires.forms _ c.requires.rect_right _ _ c.requires.steps _ c.requires.meets); columns_value = c.requires.columns_value; h_in_bounds = c.requires.h_in_bounds }
+    record {
+      part_fits = subst (PartFits (area_of c.args.area) c.args.w c.args.h) (sym c.part_of-part.ensures)
+          (part_fits _ c.requires.forms _ c.requires.rect_right _ _ c.requires.steps _ c.requires.meets);
+      columns_value = c.requires.columns_value;
+      h_in_bounds = c.requires.h_in_bounds;
+    }
 
 pub returns-then-word-eq-SOLID : goal.returns-then-word-eq-SOLID
 returns-then-word-eq-SOLID c =

@@ -27,15 +27,14 @@ pub loop-j-smaller : goal.loop-j-smaller
 loop-j-smaller c = omega arith
 
 pub loop-j-preserved : goal.loop-j-preserved
-loop-j-preserved c =
-    (
-      c.add_tile.auto.out ∙ c.loop-j.invariant.0,
-      (
-        omega arith,
-        spread_on _ c.requires.forms _ c.requires.rect_right _ _ c.requires.steps c.args.list.now c.requires.each _ _ _ c.loop-j.j (omega arith) c.loop-j.invariant.1.1
-            (subst (AddsTile _ _ _ _ c.args.w c.args.h) c.named-k.ensures c.add_tile.ensures),
-      ),
-    )
+loop-j-preserved c = (
+  c.add_tile.auto.out ∙ c.loop-j.invariant.0,
+  (
+    omega arith,
+    spread_on _ c.requires.forms _ c.requires.rect_right _ _ c.requires.steps c.args.list.now c.requires.each _ _ _ c.loop-j.j (omega arith) c.loop-j.invariant.1.1
+        (subst (AddsTile _ _ _ _ c.args.w c.args.h) c.named-k.ensures c.add_tile.ensures),
+  ),
+)
 
 pub shape_of-out : goal.shape_of-out
 shape_of-out c = c.loop-j.invariant.0

@@ -38,7 +38,7 @@ returns c =
     let n = writes_count _ _ _ _ c.list_area-written.ensures in
     let room : c.list_area-written.result ≤ length c.args.out.now =
     elim c.if-out-records.branch [
-      then-out-records+else-out-needed w ↦ omega (arith, w.if-out-needed.false, counts_area_one _ f _ _ _ w.count_area-needed.ensures n)
-    | else-out-records w ↦ omega (arith, w.if-out-records.false, c.records.ensures, counts_area_short _ f _ _ n)
+      | then-out-records+else-out-needed w ↦ omega (arith, w.if-out-needed.false, counts_area_one _ f _ _ _ w.count_area-needed.ensures n)
+      | else-out-records w ↦ omega (arith, w.if-out-records.false, c.records.ensures, counts_area_short _ f _ _ n)
     ] in
     rw c.done.ensures (enumerate_done _ _ _ _ _ c.requires.fit c.requires.rect_right room c.list_area-written.ensures)

@@ -1,0 +1,3 @@
+-- Theorems that rest on what a report gives.
+pub mod Written
+pub mod Examples

@@ -1,0 +1,28 @@
+-- `neighbours::list_often` meets its contract. The invariant: what is listed by the first run and then by the others is listed. Assumes nothing.
+use native.Mathlib.Omega.{arith}
+use mathlib.Core.Path.{◌≡◌, refl}
+use mathlib.Core.List.{List}
+use Prim.Native.Nat.{◌-◌}
+use lib.IntN.{ℤ}
+use lib.ListN.{length}
+use Rattle.repeated.specs.Says.{SideListed}
+use Rattle.repeated.specs.Runs.{side_twice}
+use Rattle.repeated.proofs.neighbours.list_often.Goals as goal
+
+pub loop-n-init : goal.loop-n-init
+loop-n-init c = (refl, λ old s. s)
+
+pub overflow_add-n : goal.overflow_add-n
+overflow_add-n c = omega arith
+
+pub loop-n-smaller : goal.loop-n-smaller
+loop-n-smaller c = omega arith
+
+pub loop-n-preserved : goal.loop-n-preserved
+loop-n-preserved c = (omega (arith, c.loop-n.invariant.0, c.list_from-k-in-loop-n.auto.list), λ old s. side_twice _ c.requires.fit.forms _ _ _ _ _ _ _ _ (c.loop-n.invariant.1 old s) c.list_from-k-in-loop-n.ensures)
+
+pub shape_of-list : goal.shape_of-list
+shape_of-list c = omega (arith, c.loop-n.invariant.0, c.list_from-k.auto.list)
+
+pub returns : goal.returns
+returns c = c.loop-n.invariant.1 _ c.list_from-k.ensures

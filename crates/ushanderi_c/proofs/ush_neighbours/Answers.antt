@@ -1,0 +1,7 @@
+-- `ushanderi_c::ush_neighbours` meets the promise of neighbours. Assumes nothing.
+use Rattle.ushanderi.specs.ReadingSides.{neighbours_bits}
+use Rattle.ushanderi_c.proofs.ush_neighbours.Goals as goal
+
+pub returns : goal.returns
+returns c =
+    neighbours_bits _ _ _ c.ranges.x c.ranges.y c.ranges.side c.neighbours.ensures

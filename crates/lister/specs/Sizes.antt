@@ -1,5 +1,5 @@
 -- The lister's sizes, as 01 has them ("Saved layouts"): at most 8,020 bytes are read, into a table of 1,616 records. Assumes nothing.
-use Rattle.std.specs.Prelude.{◌≡◌, refl, List, ℕ, ◌+◌, ◌*◌, ◌≤◌, ℤ, length}
+use Rattle.std.specs.Prelude.{◌≡◌, refl, List, ℕ, ◌+◌, ◌*◌, ◌≤◌, ℤ, length, take}
 use Rattle.table.specs.Words.{WIDTH}
 use Rattle.table.specs.Sound.{capacity}
 use Rattle.lister.specs.declared.input.Input.{Input}
@@ -37,3 +37,8 @@ reads_401 = refl
 abbrev pub Within : Input → List ℕ → Type 0
 Within (Layout n) bytes = n ≤ length bytes
 Within Failed bytes = Unit {0}
+
+-- where what the input has left is known: its bytes, as many as are read at most
+abbrev pub Reads : Input → List ℕ → List ℕ → Type 0
+Reads (Layout n) bytes left = take n bytes ≡ take BYTES left
+Reads Failed bytes left = Unit {0}

@@ -1,8 +1,8 @@
 // The lister's input: the bytes of a saved layout, or that they cannot be read.
-ghost use Rattle.std.specs.Prelude.{◌≡◌, length};
-ghost use Rattle.lister.specs.Sizes.{BYTES, Within};
+ghost use Rattle.std.specs.Prelude.{◌≡◌, IfSome, length};
+ghost use Rattle.lister.specs.Sizes.{BYTES, Within, Reads};
 
-use libc::STDIN_FILENO;
+use std::io::Read;
 
 // How many bytes came before the input's end, or that a read failed, which is no end of the input.
 #[derive(Clone, Copy)]
@@ -11,22 +11,22 @@ pub(crate) enum Input {
     Failed,
 }
 
-// Within until the lent bytes are full, the input ends or a read fails.
-pub(crate) fn read_layout(bytes: &mut [u8]) -> Input
+// Reads until the lent bytes are full, the input ends or a read fails, which is told on standard error.
+pub(crate) fn read_layout<R: Eprint, I: Read>(rt: &R, input: &mut I, bytes: &mut [u8]) -> Input
     requires { length bytes.old ≡ BYTES }
-    ensures { Within result bytes.new }
+    ensures within { Within result bytes.new }
+    ensures reads { IfSome (I.remaining input.old) (Reads result bytes.new) }
 {
     let mut done: usize = 0;
     while done < bytes.len() {
-        let got = libc::read(STDIN_FILENO, &mut bytes[done..]);
-        if got < 0 {
-            return Input::Failed;
+        match input.read(&mut bytes[done..]) {
+            Ok(0) => return Input::Layout(done),
+            Ok(more) => done += more,
+            Err(error) => {
+                let _ = eprintln!(rt; "lister: standard input: {error}");
+                return Input::Failed;
+            }
         }
-        let more = io::count(got, &bytes[done..]);
-        if more == 0 {
-            break;
-        }
-        done += more;
     }
     Input::Layout(done)
 }

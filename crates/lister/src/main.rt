@@ -6,7 +6,7 @@ mod listing;
 mod text;
 
 use input::Input;
-use libc::STDOUT_FILENO;
+use std::process::ExitCode;
 use table::numbers::WIDTH;
 
 // The most bytes that are read, the records of the table, and the room for one line.
@@ -16,19 +16,20 @@ const RECORDS: usize = 1616;
 
 const LINE: usize = 80;
 
-fn main() {
+fn main(rt: HostRuntime) -> ExitCode {
     let mut bytes = [0u8; BYTES];
-    let read = input::read_layout(&mut bytes);
+    let read = input::read_layout(&rt, &mut rt.stdin(), &mut bytes);
     let Input::Layout(count) = read else {
-        os::fail(b"lister: standard input");
-        return;
+        return ExitCode::FAILURE;
     };
     let mut table = [0i32; WIDTH * RECORDS];
     let mut list = [0i32; RECORDS];
     let mut text = [0u8; LINE * RECORDS];
     let n = listing::list(&mut table, &bytes[..count], &mut list, &mut text);
-    let written = io::write_all(STDOUT_FILENO, &text[..n]);
-    if !written {
-        os::fail(b"lister: standard output");
+    let written = rt.write_all(&text[..n]);
+    if let Err(error) = written {
+        let _ = eprintln!(rt; "lister: standard output: {error}");
+        return ExitCode::FAILURE;
     }
+    ExitCode::SUCCESS
 }

@@ -11,9 +11,6 @@ use Rattle.ushanderi.specs.Promises.{Fit, FreshSays, CheckSays, ViewSays, FindSa
 use Rattle.claims.specs.AgreeReads.{fresh_agrees, check_agrees, places_agree, view_placed, view_agrees, find_agrees, neighbours_agrees, search_agrees, enumerate_agrees, save_agrees}
 use Rattle.claims.specs.AgreeReports.{density_agrees}
 use Rattle.claims.specs.AgreePicture.{space_agrees}
-use Rattle.claims.specs.AgreeCreate.{create_agrees}
-use Rattle.claims.specs.AgreeDelete.{delete_agrees}
-use Rattle.claims.specs.AgreeLoad.{load_agrees}
 use Rattle.claims.specs.Terms.{SamePicture, SameTiles, CreateAgrees, DeleteAgrees, LoadAgrees}
 
 pub record Agreement : Type 0 where
@@ -38,23 +35,3 @@ pub record Agreement : Type 0 where
   pub load : (t : List ℤ) (bs : List ℕ) (u v : List ℤ) (a b : MetAnswer) → LoadSays t bs u a → LoadSays t bs v b → LoadAgrees u v a b
   -- the solids settle the space rectangles
   pub space : (u v : List ℤ) → Fit u → Fit v → SamePicture u v → SameTiles u v
-
-pub agreement : Agreement
-agreement =
-    record {
-      fresh = fresh_agrees;
-      check = check_agrees;
-      view = view_agrees;
-      place = places_agree;
-      placed = view_placed;
-      find = find_agrees;
-      neighbours = neighbours_agrees;
-      search = search_agrees;
-      enumerate = enumerate_agrees;
-      density = density_agrees;
-      create = create_agrees;
-      delete = delete_agrees;
-      save = save_agrees;
-      load = load_agrees;
-      space = space_agrees;
-    }

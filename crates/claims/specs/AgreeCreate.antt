@@ -16,20 +16,19 @@ use Rattle.ushanderi.specs.Promises.{Fit, CreateRefuses, CreateSays}
 use Rattle.ushanderi.specs.Editing.{refusal}
 use Rattle.claims.specs.AgreeChecks.{Then, stops, goes, both, same, join, NotFit, not_fit, UnfitMet, unfit_met_agrees, met_one, met_number, one_cell, not_done, unfit_not_done}
 use Rattle.claims.specs.AgreePicture.{picture_turned, shows, picture_count}
-use Rattle.claims.specs.AgreeTables.{Alike, alike_self, alike_turned, alike_renumbered}
+use Rattle.claims.specs.AgreeTables.{Alike, alike_self, alike_turned}
 use Rattle.claims.specs.Terms.{Shows, SamePicture, OneCell, CreateAgrees, Created}
 
 -- ---- create's checks in their order
+pub record Met (t : List ℤ) (A : Area) : Type 0 where
+  pub x : ℕ
+  pub y : ℕ
+  pub i : ℕ
+  pub first : First t A x y i
 
-record Met (t : List ℤ) (A : Area) : Type 0 where
-  x : ℕ
-  y : ℕ
-  i : ℕ
-  first : First t A x y i
-
-record Occupied (t : List ℤ) (A : Area) (a : MetAnswer) : Type 0 where
-  met : Met t A
-  is : a ≡ with_cell (answered OCCUPIED met.i) met.x met.y
+pub record Occupied (t : List ℤ) (A : Area) (a : MetAnswer) : Type 0 where
+  pub met : Met t A
+  pub is : a ≡ with_cell (answered OCCUPIED met.i) met.x met.y
 
 abbrev Checked : List ℤ → Area → ℕ → List ℤ → MetAnswer → Type 0
 Checked t A label t' a =
@@ -38,7 +37,7 @@ Checked t A label t' a =
     (Then (Met t A) (Occupied t A a × (t' ≡ t))
     (Then (solids_in t ≡ capacity (records_of t)) ((a ≡ without_cell (refused FULL)) × (t' ≡ t)) (Created t A label t' a))))
 
-create_order : (t : List ℤ) (A : Area) (label : ℕ) (t' : List ℤ) (a : MetAnswer) → CreateSays t A label t' a
+pub create_order : (t : List ℤ) (A : Area) (label : ℕ) (t' : List ℤ) (a : MetAnswer) → CreateSays t A label t' a
     → Then (NotFit t) (UnfitMet t a × (t' ≡ t)) (Fit t × Checked t A label t' a)
 create_order t A label t' a (CreateSays.refuses (CreateRefuses.unfit b n e) w) = stops (not_fit t b n) (record { with = b; unfit = n; is = e }, w)
 create_order t A label t' a (CreateSays.refuses (CreateRefuses.rect f n e) w) = goes (λ m. m f) (f, stops n (e, w))
@@ -73,7 +72,6 @@ create_checked t A label t' a f c = go (create_order t A label t' a c)
     go (goes n q) = q.1
 
 -- ---- the picture after a create is settled by the picture before it
-
 adds_there : (u v u' v' : List ℤ) (i j : ℕ) (w : Tile) → SamePicture u v → Adds u u' i w → Adds v v' j w → (z : Tile) → Shows u' z → Shows v' z
 adds_there u v u' v' i j w p a b z s = eq_cases s.at i
     (λ e. record { at = j; solid = b.new; is = b.is ∙ sym a.is ∙ ap (tile_of u') (sym e) ∙ s.is })
@@ -94,7 +92,6 @@ edited_fit t t' f e =
     record { size = record { whole = omega arith; least = omega arith; most = omega arith }; sound = e.sound }
 
 -- ---- creates on two tables of one picture
-
 met_there : (u v : List ℤ) → SamePicture u v → (A : Area) → Met u A → Met v A
 met_there u v p A m =
     let f = m.first in
@@ -139,7 +136,7 @@ module _ (u v : List ℤ) (A : Area) (label : ℕ) (u' v' : List ℤ) (a b : Met
       let e = met_one v l.right A OCCUPIED m.x m.y m.i n.x n.y n.i m.first n.first in
       both_refused OCCUPIED (λ e. omega arith) (met_number p.is) (met_number q.is) (one_cell p.is (q.is ∙ sym e))
 
-  both_created : Alike u v → Created u A label u' a → Created v A label v' b → GoAlike u' v' a b
+  pub both_created : Alike u v → Created u A label u' a → Created v A label v' b → GoAlike u' v' a b
   both_created l p q =
       record {
         number = join (met_number p.is) (met_number q.is);
@@ -161,40 +158,3 @@ module _ (u v : List ℤ) (A : Area) (label : ℕ) (u' v' : List ℤ) (a b : Met
       (λ r s. both_occupied l r.0 s.0)
       (both (full_there u v l) (full_there v u (alike_turned u v l)) (λ r s. both_zero FULL (λ e. omega arith) r.0 s.0) (both_created l))))
       (create_checked u A label u' a l.left p) (create_checked v A label v' b l.right q)
-
--- ---- two answers to one create
-
-module _ (t : List ℤ) (A : Area) (label : ℕ) (u v : List ℤ) (a b : MetAnswer) where
-  refused_same : a ≡ b → a.number ≢ pos DONE → u ≡ t → v ≡ t → CreateAgrees t u v a b
-  refused_same e n w z = record { number = ap (λ a. a.number) e; cell = (ap (λ a. a.x) e, ap (λ a. a.y) e); refused = λ h. (e, join w z); done = λ h. absurd (n h) }
-
-  unfit_same : UnfitMet t a × (u ≡ t) → UnfitMet t b × (v ≡ t) → CreateAgrees t u v a b
-  unfit_same (p, w) (q, z) =
-      refused_same (unfit_met_agrees t a b p q) (λ h. unfit_not_done t p.with p.unfit (sym (ap (λ a. a.number) p.is) ∙ h)) w z
-
-  created_same : Fit t → Created t A label u a → Created t A label v b → CreateAgrees t u v a b
-  created_same f p q =
-      let g = both_created t t A label u v a b (alike_self t f) p q in
-      record {
-        number = g.number;
-        cell = g.cell;
-        refused = λ h. absurd (h (met_number p.is));
-        done = λ h. record { table = alike_renumbered u v (g.done h); kept = p.done.adds.kept; kept_too = q.done.adds.kept };
-      }
-
-  occupied_same : Fit t → Occupied t A a × (u ≡ t) → Occupied t A b × (v ≡ t) → CreateAgrees t u v a b
-  occupied_same f p q =
-      let m = p.0.met in
-      let n = q.0.met in
-      let s = met_one t f A OCCUPIED m.x m.y m.i n.x n.y n.i m.first n.first in
-      refused_same (p.0.is ∙ s ∙ sym q.0.is) (not_done (met_number p.0.is) (λ e. omega arith)) p.1 q.1
-
-  zero_same : (n : ℕ) → n ≢ DONE → (a ≡ without_cell (refused n)) × (u ≡ t) → (b ≡ without_cell (refused n)) × (v ≡ t) → CreateAgrees t u v a b
-  zero_same n d p q = refused_same (join p.0 q.0) (not_done (met_number p.0) d) p.1 q.1
-
-  pub create_agrees : CreateSays t A label u a → CreateSays t A label v b → CreateAgrees t u v a b
-  create_agrees p q =
-      same unfit_same
-      (λ r s. same (zero_same RECT (λ e. omega arith))
-      (same (zero_same LABEL (λ e. omega arith)) (same (occupied_same r.0) (same (zero_same FULL (λ e. omega arith)) (created_same r.0)))) r.1 s.1)
-      (create_order t A label u a p) (create_order t A label v b q)

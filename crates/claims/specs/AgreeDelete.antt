@@ -9,17 +9,15 @@ use Rattle.ushanderi.specs.declared.answer.Answer.{Answer}
 use Rattle.ushanderi.specs.Edits.{Removes, label_in, NoRoom}
 use Rattle.ushanderi.specs.Promises.{Unfit, Fit, DeleteRefuses, DeleteDone, DeleteSays}
 use Rattle.claims.specs.AgreeChecks.{Then, stops, goes, same, join, NotFit, not_fit, unfit_agrees, fit_finds_one, finds_inside, number_is, not_done, unfit_not_done}
-use Rattle.claims.specs.AgreeTables.{alike_renumbered}
 use Rattle.claims.specs.AgreeCreate.{edited_fit}
 use Rattle.claims.specs.Terms.{SamePicture, SameRecords, DeleteAgrees}
 
 -- ---- delete's checks in their order
-
 -- a space tile holds the cell
-record AtSpace (t : List ℤ) (x y : ℕ) : Type 0 where
-  at : ℕ
-  finds : Finds t x y at
-  space : SpaceIn t at
+pub record AtSpace (t : List ℤ) (x y : ℕ) : Type 0 where
+  pub at : ℕ
+  pub finds : Finds t x y at
+  pub space : SpaceIn t at
 
 -- an accepted delete and its answer
 pub record Deleted (t : List ℤ) (x y : ℕ) (t' : List ℤ) (a : Answer) : Type 0 where
@@ -37,7 +35,7 @@ not_space t x y i f h s p =
     let e : SpaceIn t i = subst (λ j. SpaceIn t j) (fit_finds_one t f x y p.at i p.finds h) p.space in
     omega (arith, s.kind)
 
-delete_order : (t : List ℤ) (x y : ℕ) (t' : List ℤ) (a : Answer) → DeleteSays t x y t' a
+pub delete_order : (t : List ℤ) (x y : ℕ) (t' : List ℤ) (a : Answer) → DeleteSays t x y t' a
     → Then (NotFit t) (Unfit t a × (t' ≡ t)) (Fit t × Checked t x y t' a)
 delete_order t x y t' a (DeleteSays.refuses (DeleteRefuses.unfit n) w) = stops (not_fit t a n) (n, w)
 delete_order t x y t' a (DeleteSays.refuses (DeleteRefuses.point f n e) w) = goes (λ m. m f) (f, stops n (e, w))
@@ -61,7 +59,6 @@ delete_done (DeleteSays.refuses (DeleteRefuses.room f i m s n e) w) h = absurd (
 delete_done (DeleteSays.done i d e) h = record { at = i; done = d; is = e }
 
 -- ---- two answers to one delete
-
 pub records_picture : (u v : List ℤ) → SameRecords u v → SamePicture u v
 records_picture u v s w = (
   λ h. record { at = h.at; solid = (s.solids h.at).0 h.solid; is = sym (s.tiles h.at h.solid) ∙ h.is },
@@ -71,48 +68,9 @@ records_picture u v s w = (
 removes_there : (t u v : List ℤ) (i j : ℕ) → Removes t u i → Removes t v i → SolidIn u j → SolidIn v j
 removes_there t u v i j p q s = let (o, n) = p.only j s in (q.kept j o n).0
 
-removes_same : (t u v : List ℤ) (i : ℕ) → Removes t u i → Removes t v i → SameRecords u v
+pub removes_same : (t u v : List ℤ) (i : ℕ) → Removes t u i → Removes t v i → SameRecords u v
 removes_same t u v i p q =
     record {
       solids = λ j. (removes_there t u v i j p q, removes_there t v u i j q p);
       tiles = λ j s. let (o, n) = p.only j s in join (p.kept j o n).1 (q.kept j o n).1;
     }
-
-module _ (t : List ℤ) (x y : ℕ) (u v : List ℤ) (a b : Answer) where
-  refused_same : (n : ℕ) → n ≢ DONE → (a ≡ refused n) × (u ≡ t) → (b ≡ refused n) × (v ≡ t) → DeleteAgrees u v a b
-  refused_same n d p q =
-      record { answer = join p.0 q.0; refused = λ h. join p.1 q.1; done = λ h. absurd (not_done (number_is p.0) d h) }
-
-  unfit_same : Unfit t a × (u ≡ t) → Unfit t b × (v ≡ t) → DeleteAgrees u v a b
-  unfit_same p q =
-      record {
-        answer = unfit_agrees t a b p.0 q.0;
-        refused = λ h. join p.1 q.1;
-        done = λ h. absurd (unfit_not_done t a p.0 h);
-      }
-
-  deleted_same : Fit t → Deleted t x y u a → Deleted t x y v b → DeleteAgrees u v a b
-  deleted_same f p q =
-      let e : q.at ≡ p.at = fit_finds_one t f x y q.at p.at q.done.allows.finds p.done.allows.finds in
-      let s = removes_same t u v p.at p.done.removes (subst (Removes t v) e q.done.removes) in
-      record {
-        answer = p.is ∙ ap (λ i. accepted (label_in t i)) (sym e) ∙ sym q.is;
-        refused = λ h. absurd (h (number_is p.is));
-        done = λ h.
-            record {
-              solids = s;
-              table = alike_renumbered u v (record {
-                left = edited_fit t u f p.done.edited;
-                right = edited_fit t v f q.done.edited;
-                size = join p.done.edited.size q.done.edited.size;
-                picture = records_picture u v s;
-              });
-            };
-      }
-
-  pub delete_agrees : DeleteSays t x y u a → DeleteSays t x y v b → DeleteAgrees u v a b
-  delete_agrees p q =
-      same unfit_same
-      (λ r s. same (refused_same POINT (λ e. omega arith))
-      (same (refused_same SPACE (λ e. omega arith)) (same (refused_same ROOM (λ e. omega arith)) (deleted_same r.0))) r.1 s.1)
-      (delete_order t x y u a p) (delete_order t x y v b q)

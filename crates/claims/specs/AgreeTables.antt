@@ -17,9 +17,7 @@ use Rattle.claims.specs.Pictures.{twin, same_spaces}
 use Rattle.claims.specs.Terms.{SamePicture, Twins, SameStitch, SameStitches, free_at, free_in, Renumbered}
 
 -- ---- what agrees
-
 -- ---- two sound tables of one length and one picture
-
 pub record Alike (u v : List ℤ) : Type 0 where
   pub left : Fit u
   pub right : Fit v
@@ -33,47 +31,14 @@ pub alike_turned : (u v : List ℤ) → Alike u v → Alike v u
 alike_turned u v l = record { left = l.right; right = l.left; size = sym l.size; picture = picture_turned u v l.picture }
 
 -- ---- stitches
-
-plane_cases : {C : Type 0} (x y : ℕ) → (InPlane x y → C) → ((InPlane x y → ⊥) → C) → C
+pub plane_cases : {C : Type 0} (x y : ℕ) → (InPlane x y → C) → ((InPlane x y → ⊥) → C) → C
 plane_cases x y f g =
     lt_cases x LOW (λ h. g (λ p. omega (arith, p.x_low))) (λ a.
     lt_cases x HIGH (λ b. lt_cases y LOW (λ h. g (λ p. omega (arith, p.y_low))) (λ c.
     lt_cases y HIGH (λ d. f (record { x_low = a; x_high = b; y_low = c; y_high = d })) (λ h. g (λ p. omega (arith, p.y_high)))))
     (λ h. g (λ p. omega (arith, p.x_high))))
 
-module _ (u v : List ℤ) (l : Alike u v) where
-  named_twins : (w z x y : ℕ) → Named u w x y → Named v z x y → Twins u v (w - ZERO) (z - ZERO)
-  named_twins w z x y p q =
-      let (j, o) = twin u v l.left l.right l.picture (w - ZERO) p.used in
-      let h : Has (tile_of v j) x y = subst (λ a. Has a x y) (sym o.same) p.has in
-      let e = fit_finds_one v l.right x y j (z - ZERO) (record { used = o.twin; has = h }) (record { used = q.used; has = q.has }) in
-      subst (Twins u v (w - ZERO)) e o
-
-  stitch_same : (w z x y : ℕ) → Names u w x y → Names v z x y → SameStitch u v w z
-  stitch_same w z x y p q = plane_cases x y
-      (λ h.
-      let a = p.inside h in
-      let b = q.inside h in
-      SameStitch.tile (w - ZERO) (z - ZERO) (omega (arith, a.from)) (omega (arith, b.from)) (named_twins w z x y a b))
-      (λ n. SameStitch.none (p.outside n) (q.outside n))
-
-  stitches_same : (i j : ℕ) → Twins u v i j → SameStitches u v i j
-  stitches_same i j t =
-      let a = l.left.sound.for.stitched i t.used in
-      let b = l.right.sound.for.stitched j t.twin in
-      let left = ap (λ v. v.left) t.same in
-      let right = ap (λ v. v.right) t.same in
-      let bottom = ap (λ v. v.bottom) t.same in
-      let top = ap (λ v. v.top) t.same in
-      record {
-        tr = stitch_same _ _ _ _ a.tr (subst₂ (λ x y. Names v (num v j TR) x (y - 1)) right top b.tr);
-        rt = stitch_same _ _ _ _ a.rt (subst₂ (λ x y. Names v (num v j RT) (x - 1) y) right top b.rt);
-        bl = stitch_same _ _ _ _ a.bl (subst₂ (λ x y. Names v (num v j BL) (x - 1) y) left bottom b.bl);
-        lb = stitch_same _ _ _ _ a.lb (subst₂ (λ x y. Names v (num v j LB) x (y - 1)) left bottom b.lb);
-      }
-
 -- ---- free records
-
 -- each record is solid, space or free
 module _ (t : List ℤ) (f : Fit t) where
   abbrev one : ℕ → ℕ
@@ -97,18 +62,8 @@ module _ (t : List ℤ) (f : Fit t) where
       let free : ℕ → ℕ = λ k. only (free_at t k) 1 in
       omega (arith, sum_add R solid (λ k. space k + free k), sum_add R space free, sum_ext R one_kind, sum_const R 1)
 
-free_same : (u v : List ℤ) → Alike u v → free_in u ≡ free_in v
+pub free_same : (u v : List ℤ) → Alike u v → free_in u ≡ free_in v
 free_same u v l =
     let solids = picture_count u v l.left l.right l.picture in
     let spaces = same_spaces u v l.left l.right l.picture in
     omega (arith, solids, spaces, all_kinds u l.left, all_kinds v l.right, ap (λ n. n / WIDTH) l.size)
-
-pub alike_renumbered : (u v : List ℤ) → Alike u v → Renumbered u v
-alike_renumbered u v l = record {
-  size = l.size;
-  picture = l.picture;
-  tiles = space_agrees u v l.left l.right l.picture;
-  stitches = stitches_same u v l;
-  free = free_same u v l;
-  zeros = (l.left.sound.for.free, l.right.sound.for.free);
-}

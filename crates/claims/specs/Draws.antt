@@ -15,7 +15,6 @@ use Rattle.claims.specs.AgreePicture.{shows, tile_once}
 use Rattle.claims.specs.AgreeCreate.{edited_fit}
 use Rattle.claims.specs.AgreeLoad.{fresh_fit}
 use Rattle.claims.specs.History.{Among, History, Kept}
-use Rattle.claims.specs.HistoryKept.{history_kept}
 use Rattle.claims.specs.Terms.{Shows, SamePicture}
 use Rattle.claims.specs.Drawing.{Draws}
 
@@ -26,7 +25,6 @@ draws_same t u vs d e w = (one t u d e w, one u t e d w)
     one t u d e w s = e.all w (subst (λ v. Among vs v) s.is (d.each s.at s.solid))
 
 -- ---- what holds of each of the solids
-
 abbrev pub Every : (Tile → Type 0) → List Tile → Type 0
 Every P [] = Unit {0}
 Every P (v ∷ vs) = P v × Every P vs
@@ -40,7 +38,6 @@ pub draws_free : (t : List ℤ) (vs : List Tile) (x y : ℕ) → Draws t vs → 
 draws_free t vs x y d e i s h = every_one (λ v. Has v x y → ⊥) vs (tile_of t i) e (d.each i s) h
 
 -- ---- edits
-
 pub draws_more : (t t' : List ℤ) (vs : List Tile) (k : ℕ) (v : Tile) → Draws t vs → Edited t t' → Adds t t' k v → Draws t' (vs ++ v ∷ [])
 draws_more t t' vs k v d e a = record { fit = edited_fit t t' d.fit e; each = each; all = λ w m. all w (Memᴰ.append_cases vs m) }
   where
@@ -73,7 +70,6 @@ draws_less t t' vs k v d n e r s q = record { fit = edited_fit t t' d.fit e; eac
         record { at = u.at; solid = o; is = c ∙ u.is }
 
 -- ---- a fresh plane draws nothing
-
 pub fresh_draws : (t : List ℤ) → SizeRight t → Draws (fresh_table (length t)) []
 fresh_draws t s = record { fit = fresh_fit t s; each = λ i u. absurd (none i u); all = λ v m. absurd (Memᴰ.not-nil m) }
   where
@@ -85,7 +81,6 @@ fresh_draws t s = record { fit = fresh_fit t s; each = λ i u. absurd (none i u)
     none (suc i) u = omega (arith, u.kind, one.rest i KIND u.below (omega arith))
 
 -- ---- every history draws its account, and the order of a list does not matter
-
 pub draws_by : (t : List ℤ) (S S' : List Tile) → Draws t S → ((v : Tile) → Among S v → Among S' v) → ((v : Tile) → Among S' v → Among S v) → Draws t S'
 draws_by t S S' d to from = record { fit = d.fit; each = λ i s. to (tile_of t i) (d.each i s); all = λ v m. d.all v (from v m) }
 
@@ -95,6 +90,3 @@ kept_draws t S k = record {
   each = λ i s. (k.solids (tile_of t i)).1 (shows t i s);
   all = λ v m. (k.solids v).0 m;
 }
-
-pub history_draws : (t : List ℤ) (S : List Tile) → History t S → Draws t S
-history_draws t S h = kept_draws t S (history_kept h)

@@ -13,11 +13,9 @@ use Rattle.ushanderi.specs.declared.answer.MetAnswer.{MetAnswer}
 use Rattle.ushanderi.specs.Promises.{Fit, FreshSays, CreateRefuses, CreateSays, DeleteSays, area_in, Built, LoadStops, LoadSays}
 use Rattle.claims.specs.AgreeChecks.{not_fit, number_is, met_number, number_one, not_done}
 use Rattle.claims.specs.AgreeCreate.{refuses_not_done}
-use Rattle.claims.specs.AgreeLoad.{built_fit}
 use Rattle.claims.specs.History.{Begins, Step}
 
 -- ---- fresh
-
 pub fresh_done : (t t' : List ℤ) (a : Answer) → FreshSays t t' a → a.number ≡ pos DONE → SizeRight t × (t' ≡ fresh_table (length t))
 fresh_done t t' a (FreshSays.size n e w) h = absurd (not_done (number_is e) (λ e. omega arith) h)
 fresh_done t t' a (FreshSays.done s e w) h = (s, w)
@@ -27,7 +25,6 @@ fresh_left t t' a (FreshSays.size n e w) h = w
 fresh_left t t' a (FreshSays.done s e w) h = absurd (h (number_is e))
 
 -- ---- load
-
 pub load_done : (t : List ℤ) (bs : List ℕ) (t' : List ℤ) (a : MetAnswer) → LoadSays t bs t' a → a.number ≡ pos DONE
     → SizeRight t × Built (length t) bs (length bs / SAVED) t'
 load_done t bs t' a (LoadSays.size n e w) h = absurd (not_done (met_number e) (λ e. omega arith) h)
@@ -42,23 +39,14 @@ load_fresh t bs t' a (LoadSays.stopped k w) (LoadStops.stops s z m c u o l b r d
 load_fresh t bs t' a (LoadSays.done s n k e) (LoadStops.stops s' z m c u o l b r d q) = absurd (refuses_not_done r (d ∙ sym (met_number q) ∙ met_number e))
 
 -- a create on a fit table is refused neither with 1 nor with 11
-not_unread : (t : List ℤ) (A : Area) (label : ℕ) (a : MetAnswer) → Fit t → CreateRefuses t A label a → (a.number ≡ pos SIZE) ⊎ (a.number ≡ pos FILE) → ⊥
+pub not_unread : (t : List ℤ) (A : Area) (label : ℕ) (a : MetAnswer) → Fit t → CreateRefuses t A label a → (a.number ≡ pos SIZE) ⊎ (a.number ≡ pos FILE) → ⊥
 not_unread t A label a f (CreateRefuses.unfit b n e) h = not_fit t b n f
 not_unread t A label a f (CreateRefuses.rect g n e) h = ⊎_elim (λ h. omega (arith, number_one (met_number e) h)) (λ h. omega (arith, number_one (met_number e) h)) h
 not_unread t A label a f (CreateRefuses.label g r l e) h = ⊎_elim (λ h. omega (arith, number_one (met_number e) h)) (λ h. omega (arith, number_one (met_number e) h)) h
 not_unread t A label a f (CreateRefuses.occupied g r l x y i m e) h = ⊎_elim (λ h. omega (arith, number_one (met_number e) h)) (λ h. omega (arith, number_one (met_number e) h)) h
 not_unread t A label a f (CreateRefuses.full g r l m n e) h = ⊎_elim (λ h. omega (arith, number_one (met_number e) h)) (λ h. omega (arith, number_one (met_number e) h)) h
 
-pub load_left : (t : List ℤ) (bs : List ℕ) (t' : List ℤ) (a : MetAnswer) → LoadSays t bs t' a → (a.number ≡ pos SIZE) ⊎ (a.number ≡ pos FILE) → t' ≡ t
-load_left t bs t' a (LoadSays.size n e w) h = w
-load_left t bs t' a (LoadSays.file s n e w) h = w
-load_left t bs t' a (LoadSays.stopped (LoadStops.stops s z n c u o l b r d e) w) h =
-    absurd (not_unread u (area_in bs n) (saved_at bs n).label o (built_fit t s bs n u b) r
-    (⊎_elim (λ h. inl (d ∙ sym (met_number e) ∙ h)) (λ h. inr (d ∙ sym (met_number e) ∙ h)) h))
-load_left t bs t' a (LoadSays.done s z b e) h = absurd (⊎_elim (λ h. omega (arith, number_one (met_number e) h)) (λ h. omega (arith, number_one (met_number e) h)) h)
-
 -- ---- every answer of a call that writes is a step: no outcome is left out
-
 pub fresh_steps : (t t' : List ℤ) (a : Answer) → FreshSays t t' a → (S : List Tile) → (S' : List Tile) × Step t S t' S'
 fresh_steps t t' a c S = go c
   where

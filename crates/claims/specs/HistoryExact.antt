@@ -18,11 +18,9 @@ use Rattle.ushanderi.specs.Promises.{Unfit, Fit, CreateRefuses, CreateSays, Dele
 use Rattle.claims.specs.AgreeChecks.{not_fit, fit_forms, number_is, met_number, number_one, not_done}
 use Rattle.claims.specs.AgreePicture.{shows}
 use Rattle.claims.specs.History.{Among, History, Kept}
-use Rattle.claims.specs.HistoryKept.{history_kept}
 use Rattle.claims.specs.Terms.{Shares}
 
 -- ---- create
-
 -- some solid of t shares a cell with the rectangle
 pub record Overlaps (t : List ℤ) (A : Area) : Type 0 where
   pub at : ℕ
@@ -71,34 +69,22 @@ create_exact t A label t' a f r l (CreateSays.done i d e) =
     }
 
 -- ---- the same by the account
-
 -- some solid accepted and not deleted shares a cell with the rectangle
 pub record Covers (S : List Tile) (A : Area) : Type 0 where
   pub tile : Tile
   pub among : Among S tile
   pub shares : Shares tile A
 
-covers_overlaps : (t : List ℤ) (S : List Tile) (A : Area) → Kept t S → Covers S A → Overlaps t A
+pub covers_overlaps : (t : List ℤ) (S : List Tile) (A : Area) → Kept t S → Covers S A → Overlaps t A
 covers_overlaps t S A k c =
     let h = (k.solids c.tile).0 c.among in
     record { at = h.at; solid = h.solid; shares = subst (λ v. Shares v A) (sym h.is) c.shares }
 
-overlaps_covers : (t : List ℤ) (S : List Tile) (A : Area) → Kept t S → Overlaps t A → Covers S A
+pub overlaps_covers : (t : List ℤ) (S : List Tile) (A : Area) → Kept t S → Overlaps t A → Covers S A
 overlaps_covers t S A k o =
     record { tile = tile_of t o.at; among = (k.solids (tile_of t o.at)).1 (shows t o.at o.solid); shares = o.shares }
 
--- over every history a create within the limits is refused exactly when a solid of the account shares a cell, or the account has N solids
-pub history_create_exact : (t : List ℤ) (S : List Tile) (A : Area) (label : ℕ) (t' : List ℤ) (a : MetAnswer) → History t S → RectRight A → ZERO < label
-    → CreateSays t A label t' a → (a.number ≢ pos DONE) ↔ (Covers S A ⊎ (length S ≡ capacity (records_of t)))
-history_create_exact t S A label t' a h r l c =
-    let k = history_kept h in
-    let e = (create_exact t A label t' a (record { size = k.size; sound = k.sound }) r l c).refused in (
-      λ n. ⊎_elim (λ o. inl (overlaps_covers t S A k o)) (λ q. inr (k.number ∙ q)) (e.0 n),
-      λ o. e.1 (⊎_elim (λ v. inl (covers_overlaps t S A k v)) (λ q. inr (sym k.number ∙ q)) o),
-    )
-
 -- ---- a free record
-
 both_counts : (n : ℕ) (p q : ℕ → Bool) → ((k : ℕ) → k < n → T (p k) ⊎ T (q k)) → n ≤ count n p + count n q
 unfolding count
 both_counts n p q f =

@@ -22,23 +22,22 @@ use Rattle.claims.specs.AgreeCreate.{edited_fit}
 use Rattle.claims.specs.AgreeLoad.{fresh_fit}
 use Rattle.claims.specs.History.{Among, Distinct, without, filed, Begins, Step, History, blank, set_of, space_tile, Kept}
 use Rattle.claims.specs.HistoryAccount.{filed_label, among_without, without_among, distinct_without, at_among, among_at, distinct_at, set_number}
-use Rattle.claims.specs.HistoryCalls.{fresh_done, fresh_left, load_done, load_fresh, load_left}
+use Rattle.claims.specs.HistoryCalls.{fresh_done, fresh_left, load_done, load_fresh}
 use Rattle.claims.specs.Terms.{Shows, SameTiles}
 
 -- what the steps carry on
-record Shown (t : List ℤ) (S : List Tile) : Type 0 where
-  fit : Fit t
-  solids : (v : Tile) → Among S v ↔ Shows t v
-  once : Distinct S
-  labels : (v : Tile) → Among S v → v.paint.label < 2 ^ 32
+pub record Shown (t : List ℤ) (S : List Tile) : Type 0 where
+  pub fit : Fit t
+  pub solids : (v : Tile) → Among S v ↔ Shows t v
+  pub once : Distinct S
+  pub labels : (v : Tile) → Among S v → v.paint.label < 2 ^ 32
 
 -- ---- a fresh plane
-
 one_no_solid : (t : List ℤ) → OneTile t → (i : ℕ) → SolidIn t i → ⊥
 one_no_solid t o zero s = omega (arith, s.kind, o.kind)
 one_no_solid t o (suc i) s = omega (arith, s.kind, o.rest i KIND s.below (omega arith))
 
-fresh_shown : (t : List ℤ) → SizeRight t → Shown (fresh_table (length t)) []
+pub fresh_shown : (t : List ℤ) → SizeRight t → Shown (fresh_table (length t)) []
 fresh_shown t s =
     record {
       fit = fresh_fit t s;
@@ -51,7 +50,6 @@ fresh_shown t s =
     }
 
 -- ---- create
-
 module _ (t : List ℤ) (S : List Tile) (k : Shown t S) (A : Area) (label : ℕ) (b : label < 2 ^ 32) (t' : List ℤ) (at : ℕ) (d : CreateDone t A label t' at) where
   -- the rectangle's own corner is free
   not_there : Among S (drawn A label) → ⊥
@@ -71,7 +69,7 @@ module _ (t : List ℤ) (S : List Tile) (k : Shown t S) (A : Area) (label : ℕ)
       let o = d.adds.only h.at h.solid n in
       Memᴰ.tail ((k.solids v).1 (record { at = h.at; solid = o; is = sym (d.adds.kept h.at o).1 ∙ h.is })))
 
-  create_shown : Shown t' (drawn A label ∷ S)
+  pub create_shown : Shown t' (drawn A label ∷ S)
   create_shown =
       record {
         fit = edited_fit t t' k.fit d.edited;
@@ -84,7 +82,6 @@ module _ (t : List ℤ) (S : List Tile) (k : Shown t S) (A : Area) (label : ℕ)
       }
 
 -- ---- delete
-
 module _ (t : List ℤ) (S : List Tile) (k : Shown t S) (x y : ℕ) (t' : List ℤ) (at : ℕ) (d : DeleteDone t x y t' at) where
   -- only the solid taken holds the cell
   left_free : (i : ℕ) → SolidIn t i → i ≢ at → Has (tile_of t i) x y → ⊥
@@ -102,7 +99,7 @@ module _ (t : List ℤ) (S : List Tile) (k : Shown t S) (x y : ℕ) (t' : List �
       without_among x y S v ((k.solids v).1 (record { at = h.at; solid = o; is = e }))
       (λ c. left_free h.at o n (subst (λ v. Has v x y) (sym e) c))
 
-  delete_shown : Shown t' (without x y S)
+  pub delete_shown : Shown t' (without x y S)
   delete_shown =
       record {
         fit = edited_fit t t' k.fit d.edited;
@@ -112,8 +109,7 @@ module _ (t : List ℤ) (S : List Tile) (k : Shown t S) (x y : ℕ) (t' : List �
       }
 
 -- ---- load
-
-built_shown : (t : List ℤ) → SizeRight t → (bs : List ℕ) (m n : ℕ) (u : List ℤ) → m ≡ n → Built (length t) bs m u → Shown u (filed bs n)
+pub built_shown : (t : List ℤ) → SizeRight t → (bs : List ℕ) (m n : ℕ) (u : List ℤ) → m ≡ n → Built (length t) bs m u → Shown u (filed bs n)
 unfolding filed
 built_shown t s bs m zero u e Built.none = fresh_shown t s
 built_shown t s bs m (suc n) u e Built.none = absurd (omega arith)
@@ -123,43 +119,10 @@ built_shown t s bs m (suc n) u e (Built.more {n = k} {u = w} b i c) =
     create_shown w (filed bs n) (built_shown t s bs k n w q b) (area_in bs n) (saved_at bs n).label (filed_label bs n) u i
     (subst (λ n. CreateDone w (area_in bs n) (saved_at bs n).label u i) q c)
 
--- ---- every history
-
-begins_shown : (t t' : List ℤ) (S : List Tile) → Begins t t' S → Shown t' S
-begins_shown t t' S (Begins.fresh {a = a} c h) = let (s, w) = fresh_done t t' a c h in subst (λ t. Shown t []) (sym w) (fresh_shown t s)
-begins_shown t t' S (Begins.load {bs = bs} {a = a} c h) =
-    let (s, b) = load_done t bs t' a c h in
-    built_shown t s bs (length bs / SAVED) (length bs / SAVED) t' refl b
-begins_shown t t' S (Begins.load_refused {bs = bs} {a = a} c h) =
-    let (s, w) = load_fresh t bs t' a c h in
-    subst (λ t. Shown t []) (sym w) (fresh_shown t s)
-
-same_shown : (t t' : List ℤ) (S : List Tile) → Shown t S → t' ≡ t → Shown t' S
+pub same_shown : (t t' : List ℤ) (S : List Tile) → Shown t S → t' ≡ t → Shown t' S
 same_shown t t' S k w = subst (λ t. Shown t S) (sym w) k
 
-step_shown : (t t' : List ℤ) (S S' : List Tile) → Shown t S → Step t S t' S' → Shown t' S'
-step_shown t t' S S' k (Step.begins b) = begins_shown t t' S' b
-step_shown t t' S S' k (Step.fresh_refused {a = a} c h) = same_shown t t' S k (fresh_left t t' a c h)
-step_shown t t' S S' k (Step.load_unread {bs = bs} {a = a} c h) = same_shown t t' S k (load_left t bs t' a c h)
-step_shown t t' S S' k (Step.create {A = A} {label = l} {k = i} w d) = create_shown t S k A l w t' i d
-step_shown t t' S S' k (Step.create_refused r) = k
-step_shown t t' S S' k (Step.delete {x = x} {y = y} {i = i} d) = delete_shown t S k x y t' i d
-step_shown t t' S S' k (Step.delete_refused r) = k
-step_shown t t' S S' k (Step.check c) = k
-step_shown t t' S S' k (Step.view e c) = k
-step_shown t t' S S' k (Step.find c) = k
-step_shown t t' S S' k (Step.neighbours c) = k
-step_shown t t' S S' k (Step.search c) = k
-step_shown t t' S S' k (Step.enumerate c) = k
-step_shown t t' S S' k (Step.density c) = k
-step_shown t t' S S' k (Step.save c) = k
-
-history_shown : (t : List ℤ) (S : List Tile) → History t S → Shown t S
-history_shown t S (History.start {t = u} b) = begins_shown u t S b
-history_shown t S (History.step {t = u} {S = R} h s) = step_shown u t R S (history_shown u R h) s
-
 -- ---- what follows: the table is sound for the account's own solids
-
 module _ (t : List ℤ) (S : List Tile) (k : Shown t S) where
   of_account : (j : ℕ) → In (set_of S) j → Shows t (get_or S j blank)
   of_account j u = (k.solids (get_or S j blank)).0 (at_among S j u.below)
@@ -213,7 +176,7 @@ module _ (t : List ℤ) (S : List Tile) (k : Shown t S) where
   space_strip i e (TileOf.solid j u c) = absurd (omega (arith, ap (λ v. v.paint.kind) c, account_apart.kind j u))
   space_strip i e (TileOf.space c s) = s
 
-  shown_kept : Kept t S
+  pub shown_kept : Kept t S
   shown_kept =
       let f = fit_forms t k.fit in
       record {
@@ -236,13 +199,3 @@ module _ (t : List ℤ) (S : List Tile) (k : Shown t S) where
 
 pub built_kept : (t : List ℤ) → SizeRight t → (bs : List ℕ) (n : ℕ) (u : List ℤ) → Built (length t) bs n u → Kept u (filed bs n)
 built_kept t s bs n u b = shown_kept u (filed bs n) (built_shown t s bs n n u refl b)
-
-pub history_kept : {t : List ℤ} {S : List Tile} → History t S → Kept t S
-history_kept {t} {S} h = shown_kept t S (history_shown t S h)
-
--- two tables with one account have the same tiles, space and solid
-pub history_agrees : {t u : List ℤ} {S : List Tile} → History t S → History u S → SameTiles t u
-history_agrees {t} {u} {S} h g =
-    let k = history_shown t S h in
-    let l = history_shown u S g in
-    space_agrees t u k.fit l.fit (λ v. (λ s. (l.solids v).0 ((k.solids v).1 s), λ s. (k.solids v).0 ((l.solids v).1 s)))

@@ -23,7 +23,6 @@ pub mod Draws
 pub mod Tests
 pub mod Tables
 pub mod Allowed
-pub mod CleanFile
 pub mod Examples
 pub mod ExamplesHold
 pub mod SavedFile

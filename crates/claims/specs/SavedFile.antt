@@ -30,7 +30,7 @@ use Rattle.claims.specs.Terms.{SamePicture, Twins, Clean}
 use Rattle.claims.specs.Drawing.{area_of}
 
 -- what is saved of a solid, as the rectangle of a create
-abbrev area_by : Saved → Area
+abbrev pub area_by : Saved → Area
 area_by s = record { left = s.left; bottom = s.bottom; right = s.right; top = s.top }
 
 abbrev pub saved_file : List ℤ → List ℕ → List ℕ
@@ -38,75 +38,6 @@ saved_file t ks = file_bytes (map (saved_of t) ks)
 
 pub saved_number : (t : List ℤ) (ks : List ℕ) → length (saved_file t ks) / SAVED ≡ length ks
 saved_number t ks = omega (arith, file_length (map (saved_of t) ks), length-map ks (saved_of t))
-
-module _ (t : List ℤ) (f : Fit t) (fits : LabelsFit t) (ks : List ℕ) (l : Lists (SolidIn t) (Comes t) ks) where
-  abbrev file : List ℕ
-  file = saved_file t ks
-
-  -- the nth solid that is saved
-  abbrev nth : ℕ → Tile
-  nth n = tile_of t (get_or ks n 0)
-
-  nth_limits : (n : ℕ) → n < length ks → Limits (nth n)
-  nth_limits n h = (own_apart t f).limits (get_or ks n 0) (solid_in t (get_or ks n 0) (l.each n h))
-
-  -- no two of them share a cell
-  nth_apart : (m n x y : ℕ) → m < n → n < length ks → Has (nth m) x y → Has (nth n) x y → ⊥
-  nth_apart m n x y h b p q =
-      let e = (own_apart t f).apart (get_or ks m 0) (get_or ks n 0) x y (solid_in t (get_or ks m 0) (l.each m (omega arith))) (solid_in t (get_or ks n 0) (l.each n b)) p q in
-      let c : Comes t (get_or ks n 0) (get_or ks n 0) = subst (λ k. Comes t k (get_or ks n 0)) e (l.order m n h b) in
-      comes_asym t (get_or ks n 0) (get_or ks n 0) c c
-
-  -- ---- the file is clean, and its solids are the table's
-
-  saved_nth : (n : ℕ) → n < length ks → saved_at file n ≡ saved_of t (get_or ks n 0)
-  saved_nth n h =
-      saved_file_lem (map (saved_of t) ks) n (saved_of t 0) (solids_fit t (fit_forms t f) fits ks l) (omega (arith, length-map ks (saved_of t)))
-      ∙ get_or-map (saved_of t) ks n 0
-
-  area_nth : (n : ℕ) → n < length ks → area_in file n ≡ area_of (nth n)
-  unfolding saved_of
-  area_nth n h = ap (λ s. area_by s) (saved_nth n h)
-
-  label_nth : (n : ℕ) → n < length ks → (saved_at file n).label ≡ (nth n).paint.label
-  unfolding saved_of
-  label_nth n h = ap (λ s. s.label) (saved_nth n h)
-
-  filed_nth : (n : ℕ) → n < length ks → filed_at file n ≡ nth n
-  filed_nth n h =
-      let e = area_nth n h in
-      tile_ext (filed_at file n) (nth n)
-      (record { left = ap (λ R. R.left) e; bottom = ap (λ R. R.bottom) e; right = ap (λ R. R.right) e; top = ap (λ R. R.top) e })
-      (paint_ext (filed_at file n).paint (nth n).paint (sym (l.each n h).kind) (label_nth n h))
-
-  in_nth : (n x y : ℕ) → n < length ks → InArea (area_in file n) x y → Has (nth n) x y
-  in_nth n x y h i = let j : InArea (area_of (nth n)) x y = subst (λ R. InArea R x y) (area_nth n h) i in omega (arith, j)
-
-  pub saved_clean : (N : ℕ) → solids_in t ≤ N → Clean file N
-  saved_clean N room = record {
-    whole = omega (arith, file_length (map (saved_of t) ks));
-    rect = λ n h.
-        let b : n < length ks = omega (arith, saved_number t ks) in
-        let r : RectRight (area_of (nth n)) = omega (arith, nth_limits n b) in
-        subst RectRight (sym (area_nth n b)) r;
-    label = λ n h. let b : n < length ks = omega (arith, saved_number t ks) in subst (λ m. ZERO < m) (sym (label_nth n b)) (nth_limits n b).label;
-    apart = λ m n x y h c p q.
-        let b : n < length ks = omega (arith, saved_number t ks) in
-        nth_apart m n x y h b (in_nth m x y (omega arith) p) (in_nth n x y b q);
-    few = omega (arith, saved_number t ks, order_length t ks l);
-  }
-
-  pub saved_picture : (u : List ℤ) → Kept u (filed file (length file / SAVED)) → SamePicture t u
-  saved_picture u k v = (
-    λ s.
-        let (n, h, e) = l.all s.at s.solid in
-        let q = filed_among file (length file / SAVED) n (omega (arith, saved_number t ks)) in
-        (k.solids v).0 (subst (Among (filed file (length file / SAVED))) (filed_nth n h ∙ ap (tile_of t) e ∙ s.is) q),
-    λ s.
-        let (n, h, e) = among_filed file (length file / SAVED) v ((k.solids v).1 s) in
-        let b : n < length ks = omega (arith, saved_number t ks) in
-        record { at = get_or ks n 0; solid = l.each n b; is = sym (filed_nth n b) ∙ sym e },
-  )
 
 -- the bytes that an accepted save wrote
 pub saved_bytes : (t : List ℤ) (out out' : List ℕ) (bytes : ℕ) (s : Saves t out out' bytes) → take bytes out' ≡ saved_file t s.solids
@@ -116,7 +47,6 @@ saved_bytes t out out' bytes s =
     ∙ take_at (file_bytes ss) (drop bytes out) bytes (file_length ss ∙ ap (λ n. SAVED * n) (length-map s.solids (saved_of t)) ∙ sym s.number)
 
 -- ---- save depends on the picture alone
-
 comes_by : (t u : List ℤ) (i j k m : ℕ) → Twins t u i j → Twins t u k m → Comes t i k → Comes u j m
 comes_by t u i j k m v w (Comes.higher h) =
     Comes.higher (omega (arith, ap (λ v. v.top) v.same, ap (λ v. v.top) w.same))

@@ -27,10 +27,9 @@ use Rattle.claims.specs.AgreeCreate.{create_done}
 use Rattle.claims.specs.AgreeDelete.{delete_done}
 use Rattle.claims.specs.History.{Among, Distinct, filed_at, filed, Begins, History}
 use Rattle.claims.specs.HistoryAccount.{filed_among}
-use Rattle.claims.specs.HistoryKept.{built_kept, history_kept}
+use Rattle.claims.specs.HistoryKept.{built_kept}
 use Rattle.claims.specs.Draws.{fresh_draws}
 use Rattle.claims.specs.Allowed.{never_refused, find_is, search_free, deletes, saves}
-use Rattle.claims.specs.CleanFile.{clean_loads}
 use Rattle.claims.specs.Examples.{ABC}
 use Rattle.claims.specs.ExamplesHold.{second_done, after_A}
 use Rattle.claims.specs.Terms.{Shows, Created, Clean}
@@ -40,11 +39,10 @@ use Rattle.claims.specs.Drawing.{area, A, B, C, Draws, area_of}
 abbrev pub Refuses : ℤ → Type 0
 Refuses number = number ≢ pos DONE
 
-accepts : (a : Answer) (value : ℕ) → a ≡ accepted value → Refuses a.number → ⊥
+pub accepts : (a : Answer) (value : ℕ) → a ≡ accepted value → Refuses a.number → ⊥
 accepts a value e n = n (number_is e)
 
 -- ---- one that always refuses: where no check of 01 or 02 stops the call, no refusal is allowed
-
 pub record NoRefusal : Type 0 where
   pub fresh : (t t' : List ℤ) (a : Answer) → SizeRight t → FreshSays t t' a → Refuses a.number → ⊥
   pub check : (t : List ℤ) (a : Answer) → Fit t → CheckSays t a → Refuses a.number → ⊥
@@ -63,16 +61,16 @@ pub record NoRefusal : Type 0 where
   pub save : (t : List ℤ) (out out' : List ℕ) (a : Answer) → Fit t → SAVED * solids_in t ≤ length out → SaveSays t out out' a → Refuses a.number → ⊥
   pub load : (t t' : List ℤ) (bs : List ℕ) (a : MetAnswer) → SizeRight t → Clean bs (capacity (records_of t)) → LoadSays t bs t' a → Refuses a.number → ⊥
 
-no_refused_fresh : (t t' : List ℤ) (a : Answer) → SizeRight t → FreshSays t t' a → Refuses a.number → ⊥
+pub no_refused_fresh : (t t' : List ℤ) (a : Answer) → SizeRight t → FreshSays t t' a → Refuses a.number → ⊥
 no_refused_fresh t t' a s (FreshSays.size n e w) r = n s
 no_refused_fresh t t' a s (FreshSays.done z e w) r = accepts a 0 e r
 
-no_refused_find : (t : List ℤ) (x y : ℕ) (a : Answer) → Fit t → InPlane x y → FindSays t x y a → Refuses a.number → ⊥
+pub no_refused_find : (t : List ℤ) (x y : ℕ) (a : Answer) → Fit t → InPlane x y → FindSays t x y a → Refuses a.number → ⊥
 no_refused_find t x y a f p s r =
     let h = one_holder (records_of t) (tile_of t) (fit_forms t f).widest x y p in
     accepts a h.number (find_is t f x y h.number a (record { used = h.used; has = h.has }) s) r
 
-no_refused_neighbours : (t : List ℤ) (x y s : ℕ) (out out' : List ℤ) (a : Answer) → Fit t → InPlane x y → s < 4
+pub no_refused_neighbours : (t : List ℤ) (x y s : ℕ) (out out' : List ℤ) (a : Answer) → Fit t → InPlane x y → s < 4
     → ((i : ℕ) (ks : List ℕ) → Finds t x y i → Neighbours t (side_of s) i ks → length ks ≤ length out)
     → NeighboursSays t x y (pos s) out out' a → Refuses a.number → ⊥
 no_refused_neighbours t x y s out out' a f p b l (NeighboursSays.unfit u w) r = not_fit t a u f
@@ -84,20 +82,20 @@ no_refused_neighbours t x y s out out' a f p b l (NeighboursSays.short g c i ks 
     omega (arith, l i ks h (subst (λ s. Neighbours t (side_of s) i ks) q m))
 no_refused_neighbours t x y s out out' a f p b l (NeighboursSays.done g c i ks d h m o e w) r = accepts a (length ks) e r
 
-no_refused_search : (t : List ℤ) (R : Area) (a : MetAnswer) → Fit t → RectRight R → SearchSays t R a → Refuses a.number → ⊥
+pub no_refused_search : (t : List ℤ) (R : Area) (a : MetAnswer) → Fit t → RectRight R → SearchSays t R a → Refuses a.number → ⊥
 no_refused_search t R a f q (SearchSays.unfit b u e) r = not_fit t b u f
 no_refused_search t R a f q (SearchSays.rect g n e) r = n q
 no_refused_search t R a f q (SearchSays.free g p h e) r = r (met_number e)
 no_refused_search t R a f q (SearchSays.met g p x y i h e) r = r (met_number e)
 
-no_refused_enumerate : (t : List ℤ) (R : Area) (out out' : List ℤ) (a : Answer) → Fit t → RectRight R
+pub no_refused_enumerate : (t : List ℤ) (R : Area) (out out' : List ℤ) (a : Answer) → Fit t → RectRight R
     → ((ks : List ℕ) → Directed t R ks → length ks ≤ length out) → EnumerateSays t R out out' a → Refuses a.number → ⊥
 no_refused_enumerate t R out out' a f q l (EnumerateSays.unfit u w) r = not_fit t a u f
 no_refused_enumerate t R out out' a f q l (EnumerateSays.rect g n e w) r = n q
 no_refused_enumerate t R out out' a f q l (EnumerateSays.short g p ks d h e w) r = omega (arith, l ks d)
 no_refused_enumerate t R out out' a f q l (EnumerateSays.done g p ks d h e w) r = accepts a (length ks) e r
 
-no_refused_density : (t : List ℤ) (R : Area) (w h : ℕ) (out out' : List Float) (a : DensityAnswer) → Fit t → RectRight R → Steps R w h
+pub no_refused_density : (t : List ℤ) (R : Area) (w h : ℕ) (out out' : List Float) (a : DensityAnswer) → Fit t → RectRight R → Steps R w h
     → windows_of R w h ≤ length out → DensitySays t R w h out out' a → Refuses a.number → ⊥
 no_refused_density t R w h out out' a f q p l (DensitySays.unfit b u e z) r = not_fit t b u f
 no_refused_density t R w h out out' a f q p l (DensitySays.rect g n e z) r = n q
@@ -105,24 +103,9 @@ no_refused_density t R w h out out' a f q p l (DensitySays.step g o n e z) r = n
 no_refused_density t R w h out out' a f q p l (DensitySays.short g o s k e z) r = omega arith
 no_refused_density t R w h out out' a f q p l (DensitySays.done g o s k b m e) r = r (ap (λ a. a.number) e)
 
-no_refused_create : (t : List ℤ) (R : Area) (label : ℕ) (t' : List ℤ) (a : MetAnswer) → CreateAllows t R label → CreateSays t R label t' a → Refuses a.number → ⊥
+pub no_refused_create : (t : List ℤ) (R : Area) (label : ℕ) (t' : List ℤ) (a : MetAnswer) → CreateAllows t R label → CreateSays t R label t' a → Refuses a.number → ⊥
 no_refused_create t R label t' a g (CreateSays.refuses o w) r = never_refused g o
 no_refused_create t R label t' a g (CreateSays.done k d e) r = r (met_number e)
-
-pub no_refusal : NoRefusal
-no_refusal = record {
-  fresh = no_refused_fresh;
-  check = λ t a f s r. accepts a (solids_in t) (check_agrees t a (accepted (solids_in t)) s (CheckSays.done f refl)) r;
-  find = no_refused_find;
-  neighbours = no_refused_neighbours;
-  search = no_refused_search;
-  enumerate = no_refused_enumerate;
-  density = no_refused_density;
-  create = no_refused_create;
-  delete = λ t x y i t' a f h o s r. accepts a _ (deletes t f x y i h t' a o s).0 r;
-  save = λ t out out' a f l s r. accepts a (SAVED * solids_in t) (saves t f out out' a l s).is r;
-  load = λ t t' bs a z c s r. r (met_number (clean_loads t z bs c t' a s).0);
-}
 
 -- as with A, B and C at (9, 9)
 pub no_refusal_abc : (t : List ℤ) → Draws t ABC → (a : Answer) → FindSays t (ruler (pos 9)) (ruler (pos 9)) a → Refuses a.number → ⊥
@@ -130,7 +113,6 @@ unfolding ruler
 no_refusal_abc t d a s r = no_refused_find t (ruler (pos 9)) (ruler (pos 9)) a d.fit (omega arith) s r
 
 -- ---- one that always answers "free"
-
 -- no count or record is -1
 pub negative : (value : ℕ) → negsuc 0 ≡ pos value → ⊥
 negative value e = let o : ◌≡◌ {A = ℕ} 0 1 = cc in omega arith
@@ -158,8 +140,7 @@ pub but_free : (t : List ℤ) (R : Area) (a : MetAnswer) → Fit t → RectRight
 but_free t R a f r h s n = n (search_free t f R a r h s)
 
 -- ---- one whose create, delete, fresh or load writes nothing
-
-fresh_shows : (t : List ℤ) → SizeRight t → (v : Tile) → Shows (fresh_table (length t)) v → ⊥
+pub fresh_shows : (t : List ℤ) → SizeRight t → (v : Tile) → Shows (fresh_table (length t)) v → ⊥
 fresh_shows t z v s = Memᴰ.not-nil ((fresh_draws t z).each s.at s.solid)
 
 pub create_writes : (t : List ℤ) (R : Area) (label : ℕ) (t' : List ℤ) (a : MetAnswer) → CreateSays t R label t' a → a.number ≡ pos DONE → t' ≡ t → ⊥
@@ -186,13 +167,7 @@ load_writes t t' bs v a z d s m (LoadSays.stopped c w) q = fresh_shows t z v (su
 load_writes t t' bs v a z d s m (LoadSays.done y r b e) q =
     m (((built_kept t z bs (length bs / SAVED) t' b).solids v).1 (subst (λ t. Shows t v) (sym q) s))
 
--- load that ends well, where the file has a solid that the table has not
-pub load_draws : (t t' : List ℤ) (bs : List ℕ) (v : Tile) (a : MetAnswer) → LoadSays t bs t' a → a.number ≡ pos DONE
-    → Among (filed bs (length bs / SAVED)) v → (Shows t v → ⊥) → t' ≡ t → ⊥
-load_draws t t' bs v a s e i n q = n (subst (λ t. Shows t v) q (((history_kept (History.start (Begins.load s e))).solids v).0 i))
-
 -- ---- one whose second and later calls write nothing
-
 created_writes : (t : List ℤ) (R : Area) (label : ℕ) (t' : List ℤ) (a : MetAnswer) → CreateSays t R label t' a → Created t R label t' a → t' ≡ t → ⊥
 created_writes t R label t' a s c w = create_writes t R label t' a s (met_number c.is) w
 
@@ -211,36 +186,7 @@ second_fresh_writes t t₀ t₁ t₂ a₀ a₂ a₁ z f s₁ s₂ w =
     let d = (after_A t t₀ t₁ a₀ a₁ z f s₁).draws in
     fresh_writes t₁ t₂ A a₂ d.fit.size (d.all A (Memᴰ.head refl)) s₂ w
 
--- fresh and then a load that no check refuses, of one record or more
-pub second_load_writes : (t t₀ t₁ : List ℤ) (bs : List ℕ) (a₀ : Answer) (a₁ : MetAnswer) → SizeRight t → FreshSays t t₀ a₀ → Clean bs (capacity (records_of t))
-    → 0 < length bs / SAVED → LoadSays t₀ bs t₁ a₁ → t₁ ≡ t₀ → ⊥
-second_load_writes t t₀ t₁ bs a₀ a₁ z f c h s w =
-    let e = (fresh_agrees t t₀ (fresh_table (length t)) a₀ (accepted 0) f (FreshSays.done z refl refl)).1 in
-    let l : length t₀ ≡ length t = ap length e ∙ fresh_length (length t) (omega (arith, z.least)) in
-    let y : SizeRight t₀ = omega (arith, z) in
-    let d = (clean_loads t₀ y bs (subst (λ n. Clean bs (capacity (n / WIDTH))) (sym l) c) t₁ a₁ s).0 in
-    load_draws t₀ t₁ bs (filed_at bs 0) a₁ s (met_number d) (filed_among bs (length bs / SAVED) 0 h)
-    (λ o. fresh_shows t z (filed_at bs 0) (subst (λ t. Shows t (filed_at bs 0)) e o)) w
-
--- a load that ends well and then another, of whole records, whose file lacks one of the solids
-pub load_after_load_writes : (t t₁ t₂ : List ℤ) (bs cs : List ℕ) (v : Tile) (a₁ a₂ : MetAnswer) → LoadSays t bs t₁ a₁ → a₁.number ≡ pos DONE
-    → Among (filed bs (length bs / SAVED)) v → length cs % SAVED ≡ 0 → (Among (filed cs (length cs / SAVED)) v → ⊥) → LoadSays t₁ cs t₂ a₂ → t₂ ≡ t₁ → ⊥
-load_after_load_writes t t₁ t₂ bs cs v a₁ a₂ s₁ e i d m s₂ w =
-    let k = history_kept (History.start (Begins.load s₁ e)) in
-    load_writes t₁ t₂ cs v a₂ k.size d ((k.solids v).0 i) m s₂ w
-
--- over any history: a table that still draws the earlier account is not the table after one accepted create more
-pub later_writes : (t : List ℤ) (v : Tile) (S : List Tile) → History t (v ∷ S) → Draws t S → ⊥
-later_writes t v S h d = fresh_one (history_kept h).once (subst (Among S) s.is (d.each s.at s.solid))
-  where
-    s : Shows t v
-    s = ((history_kept h).solids v).0 (Memᴰ.head refl)
-
-    fresh_one : Distinct (v ∷ S) → Among S v → ⊥
-    fresh_one (Distinct.more n o) m = n m
-
 -- ---- one that invents the enumeration count
-
 module _ (t : List ℤ) (R : Area) (f : Fit t) (r : RectRight R) (ks : List ℕ) (d : Directed t R ks) (out out' : List ℤ) where
   -- the count is that of the directed order, for a list that is long enough and for one that is too short
   pub count_fixed : (number count : ℕ) → EnumerateSays t R out out' (answered number count) → count ≡ length ks
@@ -256,7 +202,6 @@ module _ (t : List ℤ) (R : Area) (f : Fit t) (r : RectRight R) (ks : List ℕ)
   not_invented number count n s = n (count_fixed number count s)
 
 -- ---- one whose view gives the part of another record, which may hold the same words
-
 pub own_part : (lent part : Slice) (i j : ℕ) → SizeRight lent.now → i < records_of lent.now → ViewSays lent (pos i) part
     → IsPart lent (WIDTH * j) WIDTH part → i ≢ j → ⊥
 own_part lent part i j s h v p n =

@@ -37,7 +37,7 @@ use Rattle.ushanderi.specs.Promises.{Unfit, Fit, FreshSays, CheckSays, ViewSays,
 use Rattle.claims.specs.AgreeChecks.{fit_forms, number_is, met_number, number_one, not_done, unfit_not_done}
 use Rattle.claims.specs.AgreeReads.{neighbours_agrees}
 use Rattle.claims.specs.AgreeReports.{density_agrees, report_number, density_done}
-use Rattle.claims.specs.AgreeCreate.{edited_fit, create_done, create_agrees}
+use Rattle.claims.specs.AgreeCreate.{edited_fit, create_done}
 use Rattle.claims.specs.AgreeDelete.{delete_done}
 use Rattle.claims.specs.Allowed.{deletes}
 use Rattle.claims.specs.Density.{entry, entry_share}
@@ -48,7 +48,6 @@ same_value : {m n i j : ℕ} → answered m i ≡ answered n j → i ≡ j
 same_value {i = i} {j = j} e = let z : pos i ≡ pos j = ap (λ a. a.value) e in cc
 
 -- ---- a refusal that writes: SHORT that writes what fits, OCCUPIED or FULL that writes, a fresh plane before FILE
-
 pub record Unwritten : Type 0 where
   pub fresh : (t t' : List ℤ) (a : Answer) → FreshSays t t' a → Refuses a.number → t' ≡ t
   pub neighbours : (t : List ℤ) (x y : ℕ) (side : ℤ) (out out' : List ℤ) (a : Answer) → NeighboursSays t x y side out out' a → Refuses a.number → out' ≡ out
@@ -135,7 +134,6 @@ stopped_at t bs t' number n z d r (LoadSays.stopped (LoadStops.stops y q m c u k
 stopped_at t bs t' number n z d r (LoadSays.done y q b e) = absurd (r (number_one refl (met_number e)))
 
 -- ---- entries past the count changed
-
 pub record RestKept : Type 0 where
   pub neighbours : (t : List ℤ) (x y : ℕ) (side : ℤ) (out out' : List ℤ) (n : ℕ) → NeighboursSays t x y side out out' (accepted n) → drop n out' ≡ drop n out
   pub enumerate : (t : List ℤ) (R : Area) (out out' : List ℤ) (n : ℕ) → EnumerateSays t R out out' (accepted n) → drop n out' ≡ drop n out
@@ -189,39 +187,7 @@ save_rest t out out' n (SaveSays.done f m s o e) =
 pub rest_kept : RestKept
 rest_kept = record { neighbours = neighbours_rest; enumerate = enumerate_rest; density = density_rest; save = save_rest }
 
--- ---- a later check before an earlier one
-
-module _ (t : List ℤ) (f : Fit t) where
-  -- SIDE before POINT
-  pub point_first : (x y : ℕ) (side : ℤ) (out out' : List ℤ) (a : Answer) → (InPlane x y → ⊥) → NeighboursSays t x y side out out' a → a ≡ refused POINT
-  point_first x y side out out' a n s = (neighbours_agrees t x y side out out' out a (refused POINT) s (NeighboursSays.point f n refl refl)).0
-
-  -- STEP before RECT, and SHORT before STEP: the list's length does not matter
-  pub report_rect_first : (R : Area) (w h : ℕ) (out out' : List Float) (a : DensityAnswer) → (RectRight R → ⊥) → DensitySays t R w h out out' a
-      → a ≡ unreported (refused RECT)
-  report_rect_first R w h out out' a n s =
-      (density_agrees t R w h out out' out a (unreported (refused RECT)) s (DensitySays.rect f n refl refl)).0
-
-  pub step_first : (R : Area) (w h : ℕ) (out out' : List Float) (a : DensityAnswer) → RectRight R → (Steps R w h → ⊥) → DensitySays t R w h out out' a
-      → a ≡ unreported (refused STEP)
-  step_first R w h out out' a r n s =
-      (density_agrees t R w h out out' out a (unreported (refused STEP)) s (DensitySays.step f r n refl refl)).0
-
-  module _ (R : Area) (label : ℕ) (t' : List ℤ) (a : MetAnswer) (s : CreateSays t R label t' a) where
-    refuses_with : (n : ℕ) → n ≢ DONE → CreateRefuses t R label (without_cell (refused n)) → a ≡ without_cell (refused n)
-    refuses_with n d o =
-        sym ((create_agrees t R label t t' (without_cell (refused n)) a (CreateSays.refuses o refl) s).refused (λ e. not_done refl d e)).0
-
-    -- LABEL before RECT
-    pub rect_first : (RectRight R → ⊥) → a ≡ without_cell (refused RECT)
-    rect_first n = refuses_with RECT (λ e. omega arith) (CreateRefuses.rect f n refl)
-
-    -- OCCUPIED or FULL before LABEL
-    pub label_next : RectRight R → label ≤ ZERO → a ≡ without_cell (refused LABEL)
-    label_next r l = refuses_with LABEL (λ e. omega arith) (CreateRefuses.label f r l refl)
-
 -- ---- what is not counted, held or met
-
 -- check: an unsound table accepted, or another count than that of the solids, as of the used records
 pub check_counts : (t : List ℤ) (n : ℕ) → CheckSays t (accepted n) → Sound t × (n ≡ solids_in t)
 check_counts t n (CheckSays.unfit u) = absurd (unfit_not_done t (accepted n) u refl)
@@ -282,7 +248,6 @@ save_counts t out out' n (SaveSays.short f ks l o e w) = absurd (not_done (numbe
 save_counts t out out' n (SaveSays.done f m s o e) = same_value e ∙ saves_bytes t out out' m s
 
 -- ---- density
-
 -- the rectangle of that width and height in an area's upper left corner
 abbrev pub corner_of : Area → ℕ → ℕ → Area
 corner_of R w h = record { left = R.left; bottom = R.top - h; right = R.left + w; top = R.top }
@@ -359,7 +324,6 @@ module _ (t : List ℤ) (R : Area) (w h : ℕ) (out out' : List Float) (a : Dens
         ∙ ap (λ A. share_of (covered t A) (w * h)) (corner_is R w h)
 
 -- ---- edits
-
 -- create: FULL while fewer than N solids are present, as where the used records are counted
 pub full_counts : (t : List ℤ) (R : Area) (label : ℕ) (t' : List ℤ) (a : MetAnswer) → CreateSays t R label t' a → solids_in t < capacity (records_of t)
     → a.number ≢ pos FULL

@@ -31,8 +31,8 @@ pub subtree-c-requires : goal.subtree-c-requires
 subtree-c-requires t c =
     let f = c.requires.forms in
     let h = walking_hangs _ f _ _ c.requires.meets _ c.loop-w.invariant.walk c.loop-w-test.true _ c.floor-lowest.ensures
-      (omega (arith, c.if-word-right.false, c.word.ensures.is))
-      (omega (arith, c.if-low-lowest.false, c.word-low.ensures.is)) (omega (arith, c.if-low-top.true, c.word-low.ensures.is)) in
+    (omega (arith, c.if-word-right.false, c.word.ensures.is))
+    (omega (arith, c.if-low-lowest.false, c.word-low.ensures.is)) (omega (arith, c.if-low-top.true, c.word-low.ensures.is)) in
     (omega (arith, c.decreases, h.meets.left, (hangs_beside _ f _ _ _ h).begins), (f, (c.requires.size_right, h.meets)))
 
 pub overflow_add-n : goal.overflow_add-n
@@ -40,8 +40,8 @@ overflow_add-n t c =
     let f = c.requires.forms in
     let m = c.requires.meets in
     let h = walking_hangs _ f _ _ m _ c.loop-w.invariant.walk c.loop-w-test.true _ c.floor-lowest.ensures
-      (omega (arith, c.if-word-right.false, c.word.ensures.is))
-      (omega (arith, c.if-low-lowest.false, c.word-low.ensures.is)) (omega (arith, c.if-low-top.true, c.word-low.ensures.is)) in
+    (omega (arith, c.if-word-right.false, c.word.ensures.is))
+    (omega (arith, c.if-low-lowest.false, c.word-low.ensures.is)) (omega (arith, c.if-low-top.true, c.word-low.ensures.is)) in
     let r = c.subtree-c.ensures in
     omega (
       arith,
@@ -64,14 +64,14 @@ loop-w-preserved t c =
     let l = c.loop-w in
     let o = walking_on _ f _ _ m _ l.invariant.walk c.loop-w-test.true _ c.next-w.ensures in
     elim c.if-low-top.branch [
-      then-low-top v ↦
-        let h = walking_hangs _ f _ _ m _ l.invariant.walk c.loop-w-test.true _ c.floor-lowest.ensures
+      | then-low-top v ↦
+          let h = walking_hangs _ f _ _ m _ l.invariant.walk c.loop-w-test.true _ c.floor-lowest.ensures
           (omega (arith, c.if-word-right.false, c.word.ensures.is))
           (omega (arith, c.if-low-lowest.false, c.word-low.ensures.is)) (omega (arith, v.if-low-top.true, c.word-low.ensures.is)) in
-        going_more _ f _ _ m _ _ _ _ l.invariant c.loop-w-test.true _ o _ _ _ _ _ h v.place_after-at.ensures v.subtree-c.ensures v.out-is v.n-is
-    | else-low-top v ↦
-        going_pass _ f _ _ m _ _ _ _ l.invariant c.loop-w-test.true _ o _ _
-        (λ h. omega (arith, h.meets.bottom, v.if-low-top.false, c.word-low.ensures.is)) v.out-is v.n-is
+          going_more _ f _ _ m _ _ _ _ l.invariant c.loop-w-test.true _ o _ _ _ _ _ h v.place_after-at.ensures v.subtree-c.ensures v.out-is v.n-is
+      | else-low-top v ↦
+          going_pass _ f _ _ m _ _ _ _ l.invariant c.loop-w-test.true _ o _ _
+          (λ h. omega (arith, h.meets.bottom, v.if-low-top.false, c.word-low.ensures.is)) v.out-is v.n-is
     ]
 
 pub returns : goal.returns

@@ -101,18 +101,18 @@ loop-w-preserved c =
     let n = c.requires.i_lt_n in
     let o = walking_on _ f _ _ (meets_in i) _ w c.loop-w-test.true _ c.next-w.ensures in
     elim c.if-is_within.branch [
-      then-is_within d ↦
-        let h = yes c.is_within.ensures d.if-is_within.true in
-        subst₂ (λ z m. Queueing c.args.t.now (A i) c.args.list.now c.args.i c.args.n z m c.next-w.result) (sym c.put.ensures) (sym d.m-is)
-        (queueing_more _ f _ _ _ _ q n _ _ _ c.loop-w.invariant c.loop-w-test.true _ o c.requires.size_right
-        (walking_hangs _ f _ _ (meets_in i) _ w c.loop-w-test.true _ (floored i) (ends_inside i)
-        (omega (arith, h.0, c.word-low.ensures.is)) (omega (arith, h.1, c.word-low.ensures.is))))
-    | else-is_within d ↦
-        subst₂ (λ z m. Queueing c.args.t.now (A i) c.args.list.now c.args.i c.args.n z m c.next-w.result) (sym c.put.ensures) (sym d.m-is)
-        (queueing_pass _ f _ _ _ _ q n _ _ _ c.loop-w.invariant c.loop-w-test.true _ o c.requires.size_right
-        (λ h.
-        let k = walking_hangs_not _ f _ _ (meets_in i) _ w c.loop-w-test.true _ (floored i) h in
-        no c.is_within.ensures d.if-is_within.false (omega (arith, k.0, k.1, c.word-low.ensures.is))))
+      | then-is_within d ↦
+          let h = yes c.is_within.ensures d.if-is_within.true in
+          subst₂ (λ z m. Queueing c.args.t.now (A i) c.args.list.now c.args.i c.args.n z m c.next-w.result) (sym c.put.ensures) (sym d.m-is)
+          (queueing_more _ f _ _ _ _ q n _ _ _ c.loop-w.invariant c.loop-w-test.true _ o c.requires.size_right
+          (walking_hangs _ f _ _ (meets_in i) _ w c.loop-w-test.true _ (floored i) (ends_inside i)
+          (omega (arith, h.0, c.word-low.ensures.is)) (omega (arith, h.1, c.word-low.ensures.is))))
+      | else-is_within d ↦
+          subst₂ (λ z m. Queueing c.args.t.now (A i) c.args.list.now c.args.i c.args.n z m c.next-w.result) (sym c.put.ensures) (sym d.m-is)
+          (queueing_pass _ f _ _ _ _ q n _ _ _ c.loop-w.invariant c.loop-w-test.true _ o c.requires.size_right
+          (λ h.
+          let k = walking_hangs_not _ f _ _ (meets_in i) _ w c.loop-w-test.true _ (floored i) h in
+          no c.is_within.ensures d.if-is_within.false (omega (arith, k.0, k.1, c.word-low.ensures.is))))
     ]
 
 pub shape_of-list : goal.shape_of-list

@@ -7,6 +7,7 @@ pub mod AgreeTables
 pub mod CleanFile
 pub mod Draws
 pub mod HistoryCalls
+pub mod HistoryBetween
 pub mod HistoryExact
 pub mod HistoryKept
 pub mod RoundTrip

@@ -48,16 +48,3 @@ saved_again t u u' out o o' a c b w s r q =
     let k = round_trip t u u' out o a b w s r in
     let (e, d) = save_by_picture t u' w.fit k.fit k.picture out o o' a c s q in
     (sym e, sym d)
-
--- and those of a table after any history, so that nothing more is asked of it
-pub history_between : (t u : List ℤ) (out : List ℕ) (S : List Tile) → History t S → SAVED * solids_in t ≤ length out → SizeRight u
-    → solids_in t ≤ capacity (records_of u) → Between t u out
-history_between t u out S h l z r =
-    let k = history_kept h in
-    record {
-      fit = record { size = k.size; sound = k.sound };
-      labels = λ i s. k.labels (tile_of t i) ((k.solids (tile_of t i)).1 (shows t i s));
-      list = l;
-      size = z;
-      room = r;
-    }

@@ -1,20 +1,12 @@
 -- Agreement, call by call: two answers that a promise allows for the same table and arguments are equal, and so is what they leave. Where 01 leaves open
 -- which records a create or a load gives to new solids, and which a create, delete or load gives to space tiles, the tables agree but for these numbers.
 -- Assumes nothing.
-use Rattle.std.specs.Prelude.{◌≡◌, List, ℕ, ℤ, Float}
-use Rattle.table.specs.View.{Places, Slice, IsPart}
-use Rattle.seek.specs.Meaning.{Area}
-use Rattle.ushanderi.specs.declared.answer.Answer.{Answer}
-use Rattle.ushanderi.specs.declared.answer.MetAnswer.{MetAnswer}
-use Rattle.ushanderi.specs.declared.reports.DensityAnswer.{DensityAnswer}
-use Rattle.ushanderi.specs.Promises.{Fit, FreshSays, CheckSays, ViewSays, FindSays, NeighboursSays, SearchSays, EnumerateSays, DensitySays, CreateSays, DeleteSays, SaveSays, LoadSays}
 use Rattle.claims.specs.AgreeReads.{fresh_agrees, check_agrees, places_agree, view_placed, view_agrees, find_agrees, neighbours_agrees, search_agrees, enumerate_agrees, save_agrees}
 use Rattle.claims.specs.AgreeReports.{density_agrees}
 use Rattle.claims.specs.AgreePicture.{space_agrees}
 use Rattle.claims.proofs.AgreeCreate.{create_agrees}
 use Rattle.claims.proofs.AgreeDelete.{delete_agrees}
 use Rattle.claims.proofs.AgreeLoad.{load_agrees}
-use Rattle.claims.specs.Terms.{SamePicture, SameTiles, CreateAgrees, DeleteAgrees, LoadAgrees}
 use Rattle.claims.specs.Agree.{Agreement}
 
 pub agreement : Agreement

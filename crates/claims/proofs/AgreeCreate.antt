@@ -1,24 +1,16 @@
 -- Two answers that create's promise allows agree, but for the records of new solids and of space tiles; and creates on two tables of one picture
 -- go alike. Assumes nothing.
-use Rattle.std.specs.Prelude.{◌≡◌, ◌≢◌, List, ℕ, ◌/◌, ◌≤◌, ℤ, pos}
+use Rattle.std.specs.Prelude.{◌≡◌, ◌≢◌, List, ℕ, ℤ, pos}
 use Rattle.std.proofs.Math.Path.{sym}
-use Rattle.std.proofs.Common.{ap, ◌∙◌, subst, arith}
-use Rattle.geometry.specs.Cases.{eq_cases}
-use Rattle.geometry.specs.Picture.{ZERO, Tile, Has}
-use Rattle.table.specs.Words.{WIDTH, records_of, tile_of}
-use Rattle.table.specs.Sound.{capacity, solids_in}
-use Rattle.seek.specs.Meaning.{Area, RectRight, First}
-use Rattle.seek.specs.Search.{free_no_first}
-use Rattle.ushanderi.specs.Answers.{DONE, RECT, LABEL, OCCUPIED, FULL, answered, refused, with_cell, without_cell}
+use Rattle.std.proofs.Common.{ap, ◌∙◌, arith}
+use Rattle.seek.specs.Meaning.{Area}
+use Rattle.ushanderi.specs.Answers.{DONE, RECT, LABEL, OCCUPIED, FULL, refused, without_cell}
 use Rattle.ushanderi.specs.declared.answer.MetAnswer.{MetAnswer}
-use Rattle.ushanderi.specs.Edits.{drawn, Adds, Edited}
-use Rattle.ushanderi.specs.Promises.{Fit, CreateRefuses, CreateSays}
-use Rattle.ushanderi.specs.Editing.{refusal}
-use Rattle.claims.specs.AgreeChecks.{Then, stops, goes, both, same, join, NotFit, not_fit, UnfitMet, unfit_met_agrees, met_one, met_number, one_cell, not_done, unfit_not_done}
-use Rattle.claims.specs.AgreePicture.{picture_turned, shows, picture_count}
-use Rattle.claims.specs.AgreeTables.{Alike, alike_self, alike_turned}
+use Rattle.ushanderi.specs.Promises.{Fit, CreateSays}
+use Rattle.claims.specs.AgreeChecks.{same, join, UnfitMet, unfit_met_agrees, met_one, met_number, not_done, unfit_not_done}
+use Rattle.claims.specs.AgreeTables.{alike_self}
 use Rattle.claims.proofs.AgreeTables.{alike_renumbered}
-use Rattle.claims.specs.Terms.{Shows, SamePicture, OneCell, CreateAgrees, Created}
+use Rattle.claims.specs.Terms.{CreateAgrees, Created}
 use Rattle.claims.specs.AgreeCreate.{Occupied, both_created, create_order}
 
 -- ---- two answers to one create

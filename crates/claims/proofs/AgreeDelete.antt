@@ -1,17 +1,14 @@
 -- Two answers that delete's promise allows agree wholly, and so do their solids, record by record. Assumes nothing.
-use Rattle.std.specs.Prelude.{◌≡◌, ◌≢◌, List, ℕ, ℤ, pos}
+use Rattle.std.specs.Prelude.{◌≡◌, ◌≢◌, List, ℕ, ℤ}
 use Rattle.std.proofs.Common.{sym, ap, ◌∙◌, subst, arith}
-use Rattle.geometry.specs.Picture.{InPlane}
-use Rattle.table.specs.Sound.{SolidIn, SpaceIn}
-use Rattle.seek.specs.Find.{Finds}
 use Rattle.ushanderi.specs.Answers.{DONE, POINT, SPACE, ROOM, accepted, refused}
 use Rattle.ushanderi.specs.declared.answer.Answer.{Answer}
-use Rattle.ushanderi.specs.Edits.{Removes, label_in, NoRoom}
-use Rattle.ushanderi.specs.Promises.{Unfit, Fit, DeleteRefuses, DeleteDone, DeleteSays}
-use Rattle.claims.specs.AgreeChecks.{Then, stops, goes, same, join, NotFit, not_fit, unfit_agrees, fit_finds_one, finds_inside, number_is, not_done, unfit_not_done}
+use Rattle.ushanderi.specs.Edits.{Removes, label_in}
+use Rattle.ushanderi.specs.Promises.{Unfit, Fit, DeleteSays}
+use Rattle.claims.specs.AgreeChecks.{same, join, unfit_agrees, fit_finds_one, number_is, not_done, unfit_not_done}
 use Rattle.claims.proofs.AgreeTables.{alike_renumbered}
 use Rattle.claims.specs.AgreeCreate.{edited_fit}
-use Rattle.claims.specs.Terms.{SamePicture, SameRecords, DeleteAgrees}
+use Rattle.claims.specs.Terms.{DeleteAgrees}
 use Rattle.claims.specs.AgreeDelete.{Deleted, delete_order, records_picture, removes_same}
 
 module _ (t : List ℤ) (x y : ℕ) (u v : List ℤ) (a b : Answer) where

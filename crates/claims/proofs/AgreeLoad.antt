@@ -4,8 +4,6 @@ use Rattle.std.proofs.Common.{sym, ap, ◌∙◌, subst, arith}
 use Rattle.geometry.specs.Cases.{lt_cases, eq_cases}
 use Rattle.table.specs.Sound.{SizeRight}
 use Rattle.table.specs.Fresh.{fresh_table}
-use Rattle.table.specs.FreshSound.{fresh_length}
-use Rattle.table.proofs.FreshSound.{fresh_sound}
 use Rattle.layout.specs.Bytes.{saved_at, SAVED}
 use Rattle.ushanderi.specs.Answers.{DONE, SIZE, FILE, answered, accepted, refused, without_cell}
 use Rattle.ushanderi.specs.declared.answer.MetAnswer.{MetAnswer}

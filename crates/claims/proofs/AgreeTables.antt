@@ -1,20 +1,15 @@
 -- Two sound tables of one length and one picture are one table but for the numbers of their records: the tiles agree, stitches name tiles that agree,
 -- and the other records are as many, all zeros. What a reader must believe about the records that 01 leaves open. Assumes nothing.
-use Rattle.std.specs.Prelude.{◌≡◌, refl, List, ℤ, length, eqb}
+use Rattle.std.specs.Prelude.{List, ℤ}
 use Rattle.std.proofs.Common.{sym, ap, subst, subst₂, arith}
-use Prim.Native.Nat.{ℕ, ◌+◌, ◌-◌, ◌/◌, ◌<◌}
-use Rattle.geometry.specs.Cases.{lt_cases, eq_cases}
-use Rattle.geometry.specs.Sums.{sum_add, sum_ext, sum_const}
-use Rattle.geometry.specs.Picture.{ZERO, LOW, HIGH, FREE, SPACE, SOLID, InPlane, Has}
-use Rattle.geometry.specs.Tiling.{Kinded}
-use Rattle.geometry.specs.Counting.{only, count}
-use Rattle.table.specs.Words.{WIDTH, TR, RT, BL, LB, KIND, records_of, num, tile_of}
-use Rattle.table.specs.Sound.{Named, Names, solid_at, space_at, solids_in, spaces_in}
-use Rattle.ushanderi.specs.Promises.{Fit}
-use Rattle.claims.specs.AgreeChecks.{fit_forms, fit_finds_one}
-use Rattle.claims.specs.AgreePicture.{picture_turned, space_agrees, picture_count}
-use Rattle.claims.specs.Pictures.{twin, same_spaces}
-use Rattle.claims.specs.Terms.{SamePicture, Twins, SameStitch, SameStitches, free_at, free_in, Renumbered}
+use Prim.Native.Nat.{ℕ, ◌-◌}
+use Rattle.geometry.specs.Picture.{ZERO, Has}
+use Rattle.table.specs.Words.{TR, RT, BL, LB, num, tile_of}
+use Rattle.table.specs.Sound.{Named, Names}
+use Rattle.claims.specs.AgreeChecks.{fit_finds_one}
+use Rattle.claims.specs.AgreePicture.{space_agrees}
+use Rattle.claims.specs.Pictures.{twin}
+use Rattle.claims.specs.Terms.{Twins, SameStitch, SameStitches, Renumbered}
 use Rattle.claims.specs.AgreeTables.{Alike, free_same, plane_cases}
 
 module _ (u v : List ℤ) (l : Alike u v) where

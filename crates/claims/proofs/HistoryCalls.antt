@@ -1,20 +1,13 @@
 -- What the promises of fresh and load say, by the answer's number: a refusal leaves the table, DONE is the one case of that name; and that every answer of
 -- a call that writes is a step. Assumes nothing.
-use Rattle.std.specs.Prelude.{◌≡◌, ◌≢◌, ◌⊎◌, List, ℕ, ◌/◌, ◌<◌, ◌^◌, ℤ, pos, length}
-use Rattle.std.proofs.Common.{sym, ◌∙◌, subst, inl, inr, ⊎_elim, arith}
-use Rattle.geometry.specs.Picture.{Tile}
-use Rattle.table.specs.Sound.{SizeRight}
-use Rattle.table.specs.Fresh.{fresh_table}
-use Rattle.seek.specs.Meaning.{Area}
-use Rattle.layout.specs.Bytes.{saved_at, SAVED}
-use Rattle.ushanderi.specs.Answers.{DONE, SIZE, FILE}
-use Rattle.ushanderi.specs.declared.answer.Answer.{Answer}
+use Rattle.std.specs.Prelude.{◌≡◌, ◌⊎◌, List, ℕ, ℤ, pos}
+use Rattle.std.proofs.Common.{sym, ◌∙◌, inl, inr, ⊎_elim, arith}
+use Rattle.layout.specs.Bytes.{saved_at}
+use Rattle.ushanderi.specs.Answers.{SIZE, FILE}
 use Rattle.ushanderi.specs.declared.answer.MetAnswer.{MetAnswer}
-use Rattle.ushanderi.specs.Promises.{Fit, FreshSays, CreateRefuses, CreateSays, DeleteSays, area_in, Built, LoadStops, LoadSays}
-use Rattle.claims.specs.AgreeChecks.{not_fit, number_is, met_number, number_one, not_done}
-use Rattle.claims.specs.AgreeCreate.{refuses_not_done}
+use Rattle.ushanderi.specs.Promises.{area_in, LoadStops, LoadSays}
+use Rattle.claims.specs.AgreeChecks.{met_number, number_one}
 use Rattle.claims.proofs.AgreeLoad.{built_fit}
-use Rattle.claims.specs.History.{Begins, Step}
 use Rattle.claims.specs.HistoryCalls.{not_unread}
 
 pub load_left : (t : List ℤ) (bs : List ℕ) (t' : List ℤ) (a : MetAnswer) → LoadSays t bs t' a → (a.number ≡ pos SIZE) ⊎ (a.number ≡ pos FILE) → t' ≡ t

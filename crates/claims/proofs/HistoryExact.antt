@@ -1,25 +1,16 @@
 -- A create within 01's limits is refused exactly for overlap or for N solids, never for want of a record; and every sound table has a free record.
 -- Assumes nothing.
-use Rattle.std.specs.Prelude.{◌≡◌, Bool, true, false, ◌≢◌, ◌↔◌, ◌⊎◌, List, ℕ, ◌+◌, ◌≤◌, ◌<◌, ℤ, pos, length, T}
-use Rattle.std.proofs.Common.{sym, ◌∙◌, subst, inl, inr, ⊎_elim, arith}
-use Rattle.geometry.specs.Sums.{sum_add, sum_mono, sum_const}
-use Rattle.geometry.specs.Picture.{ZERO, SPACE, SOLID, Tile}
-use Rattle.geometry.specs.Tiling.{Kinded, eq→eqb}
-use Rattle.geometry.specs.Counting.{only, count}
-use Rattle.table.specs.Words.{KIND, records_of, num, tile_of}
-use Rattle.table.specs.Sound.{capacity, solid_at, space_at, solids_in, SolidIn}
-use Rattle.table.proofs.Forms.{sound_three}
-use Rattle.seek.specs.Meaning.{Area, RectRight, FreeArea}
-use Rattle.ushanderi.specs.Answers.{DONE, OCCUPIED, FULL, ROOM}
-use Rattle.ushanderi.specs.declared.answer.Answer.{Answer}
+use Rattle.std.specs.Prelude.{◌≡◌, ◌≢◌, ◌↔◌, ◌⊎◌, List, ℕ, ◌<◌, ℤ, pos, length}
+use Rattle.std.proofs.Common.{sym, ◌∙◌, inl, inr, ⊎_elim}
+use Rattle.geometry.specs.Picture.{ZERO, Tile}
+use Rattle.table.specs.Words.{records_of}
+use Rattle.table.specs.Sound.{capacity}
+use Rattle.seek.specs.Meaning.{Area, RectRight}
+use Rattle.ushanderi.specs.Answers.{DONE}
 use Rattle.ushanderi.specs.declared.answer.MetAnswer.{MetAnswer}
-use Rattle.ushanderi.specs.Edits.{NoRoom}
-use Rattle.ushanderi.specs.Promises.{Unfit, Fit, CreateRefuses, CreateSays, DeleteRefuses, DeleteSays}
-use Rattle.claims.specs.AgreeChecks.{not_fit, fit_forms, number_is, met_number, number_one, not_done}
-use Rattle.claims.specs.AgreePicture.{shows}
-use Rattle.claims.specs.History.{Among, History, Kept}
+use Rattle.ushanderi.specs.Promises.{CreateSays}
+use Rattle.claims.specs.History.{History}
 use Rattle.claims.proofs.HistoryKept.{history_kept}
-use Rattle.claims.specs.Terms.{Shares}
 use Rattle.claims.specs.HistoryExact.{Covers, covers_overlaps, create_exact, overlaps_covers}
 
 -- over every history a create within the limits is refused exactly when a solid of the account shares a cell, or the account has N solids

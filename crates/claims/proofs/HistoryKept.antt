@@ -1,30 +1,13 @@
 -- Over all histories: the table is sound, its solids are exactly those accepted and not deleted, and what follows from that. Assumes nothing.
-use Rattle.std.specs.Prelude.{◌≡◌, refl, ◌≢◌, ◌↔◌, List, [], ◌∷◌, ℕ, zero, suc, ◌/◌, ◌<◌, ◌^◌, ℤ, length, get_or}
-use Rattle.std.proofs.Common.{sym, ap, ◌∙◌, subst, ⊎_elim, arith}
-use mathlib.Core.List.Memᴰ
-use Rattle.geometry.specs.Cases.{eq_cases}
-use Rattle.geometry.specs.Picture.{SPACE, SOLID, Tile, Has, Limits, In, number, Apart, Strip, TileOf, Drawn}
-use Rattle.geometry.specs.Runs.{SameSolids, same_turned}
-use Rattle.geometry.specs.Tiling.{one_holder}
-use Rattle.geometry.specs.DrawnWidest.{drawn_count, same_tile_of}
-use Rattle.table.specs.Words.{LEFT, BOTTOM, RIGHT, TOP, KIND, records_of, num, tile_of}
-use Rattle.table.specs.Sound.{SizeRight, SoundFor, solids_in, SolidIn}
-use Rattle.table.specs.Fresh.{fresh_table}
-use Rattle.table.specs.FreshSound.{OneTile, fresh_one}
-use Rattle.table.proofs.Forms.{sound_three}
-use Rattle.seek.specs.Meaning.{Area}
-use Rattle.layout.specs.Bytes.{saved_at, SAVED}
-use Rattle.ushanderi.specs.Edits.{drawn}
-use Rattle.ushanderi.specs.Promises.{Fit, CreateDone, DeleteDone, area_in, Built}
-use Rattle.claims.specs.AgreeChecks.{fit_forms, fit_finds_one, solid_used}
-use Rattle.claims.specs.AgreePicture.{shows, space_agrees, own_solids, in_solid, solid_in, own_apart, own_drawn}
-use Rattle.claims.specs.AgreeCreate.{edited_fit}
-use Rattle.claims.specs.AgreeLoad.{fresh_fit}
-use Rattle.claims.specs.History.{Among, Distinct, without, filed, Begins, Step, History, blank, set_of, space_tile, Kept}
-use Rattle.claims.specs.HistoryAccount.{filed_label, among_without, without_among, distinct_without, at_among, among_at, distinct_at, set_number}
+use Rattle.std.specs.Prelude.{refl, List, [], ◌/◌, ℤ, length}
+use Rattle.std.proofs.Common.{sym, subst}
+use Rattle.geometry.specs.Picture.{Tile}
+use Rattle.layout.specs.Bytes.{SAVED}
+use Rattle.claims.specs.AgreePicture.{space_agrees}
+use Rattle.claims.specs.History.{Begins, Step, History, Kept}
 use Rattle.claims.specs.HistoryCalls.{fresh_done, fresh_left, load_done, load_fresh}
 use Rattle.claims.proofs.HistoryCalls.{load_left}
-use Rattle.claims.specs.Terms.{Shows, SameTiles}
+use Rattle.claims.specs.Terms.{SameTiles}
 use Rattle.claims.specs.HistoryKept.{Shown, built_shown, create_shown, delete_shown, fresh_shown, same_shown, shown_kept}
 
 -- ---- every history

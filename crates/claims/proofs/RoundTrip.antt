@@ -1,28 +1,20 @@
 -- A save whose list is long enough is accepted; what it wrote, loaded into a table that takes as many solids, is the same picture, and is saved again
 -- as the same bytes. So for every lent table, and after every history. Assumes nothing.
-use Rattle.std.specs.Prelude.{◌≡◌, List, ℕ, ◌+◌, ◌*◌, ◌/◌, ◌≤◌, ℤ, pos, length, get_or, take}
-use Rattle.std.proofs.Common.{sym, ap, ◌∙◌, subst, SFits}
-use Rattle.std.specs.Int.{w32}
-use Rattle.ruler.specs.Ruler.{ruler_fits}
-use Rattle.geometry.specs.Picture.{Tile}
-use Rattle.table.specs.Words.{WIDTH, LABEL, records_of, num, tile_of}
-use Rattle.table.specs.Sound.{SizeRight, capacity, solids_in}
+use Rattle.std.specs.Prelude.{◌≡◌, List, ℕ, ◌*◌, ◌/◌, ℤ, length, take}
+use Rattle.std.proofs.Common.{sym, ap, ◌∙◌, subst}
+use Rattle.table.specs.Words.{records_of}
+use Rattle.table.specs.Sound.{capacity, solids_in}
 use Rattle.layout.specs.OneOrder.{order_length}
-use Rattle.layout.specs.Order.{LabelsFit}
 use Rattle.layout.specs.Bytes.{SAVED}
 use Rattle.ushanderi.specs.Answers.{accepted, without_cell}
 use Rattle.ushanderi.specs.declared.answer.Answer.{Answer}
 use Rattle.ushanderi.specs.declared.answer.MetAnswer.{MetAnswer}
-use Rattle.ushanderi.specs.Promises.{Fit, SaveSays, LoadSays}
-use Rattle.claims.specs.AgreePicture.{shows}
-use Rattle.claims.specs.History.{History}
+use Rattle.ushanderi.specs.Promises.{SaveSays, LoadSays}
 use Rattle.claims.specs.HistoryKept.{built_kept}
-use Rattle.claims.proofs.HistoryKept.{history_kept}
 use Rattle.claims.specs.Allowed.{saves}
 use Rattle.claims.proofs.CleanFile.{built_length, clean_loads}
 use Rattle.claims.specs.SavedFile.{saved_file, saved_number, saved_bytes, save_by_picture}
 use Rattle.claims.proofs.SavedFile.{saved_clean, saved_picture}
-use Rattle.claims.specs.Terms.{SamePicture}
 use Rattle.claims.specs.RoundTrip.{Between, Restored}
 
 pub round_trip : (t u u' : List ℤ) (out out' : List ℕ) (a : Answer) (b : MetAnswer) → Between t u out → SaveSays t out out' a

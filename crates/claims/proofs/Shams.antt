@@ -1,41 +1,26 @@
 -- Sham programs that the promises shut out: what each of them would answer, or leave in the table, is allowed by no promise. Assumes nothing.
-use Rattle.std.specs.Prelude.{◌≡◌, refl, ◌≢◌, List, ◌∷◌, ℕ, ◌*◌, ◌/◌, ◌%◌, ◌≤◌, ◌<◌, ℤ, pos, negsuc, Float, length}
+use Rattle.std.specs.Prelude.{◌≡◌, refl, List, ◌∷◌, ℕ, ◌*◌, ◌/◌, ◌%◌, ◌<◌, ℤ, pos, length}
 use Rattle.std.proofs.Common.{sym, ap, ◌∙◌, subst, arith}
 use mathlib.Core.List.Memᴰ
-use Rattle.ruler.specs.Ruler.{ruler}
-use Rattle.geometry.specs.Cases.{lt_cases}
-use Rattle.geometry.specs.Picture.{InPlane, Tile, Has}
-use Rattle.geometry.specs.Tiling.{one_holder}
-use Rattle.table.specs.Words.{WIDTH, records_of, tile_of}
-use Rattle.table.specs.Sound.{SizeRight, capacity, solids_in, SolidIn}
-use Rattle.table.specs.View.{Places, Slice, IsPart}
+use Rattle.geometry.specs.Picture.{Tile}
+use Rattle.table.specs.Words.{WIDTH, records_of}
+use Rattle.table.specs.Sound.{SizeRight, capacity, solids_in}
 use Rattle.table.specs.Fresh.{fresh_table}
 use Rattle.table.specs.FreshSound.{fresh_length}
-use Rattle.seek.specs.Meaning.{Area, InArea, RectRight, FreeArea, Directed}
-use Rattle.seek.specs.Find.{Finds}
-use Rattle.seek.specs.Neighbours.{side_of, Neighbours}
-use Rattle.density.specs.Meaning.{Steps, windows_of}
 use Rattle.layout.specs.Bytes.{SAVED}
-use Rattle.ushanderi.specs.Answers.{DONE, SHORT, answered, accepted, nothing, without_cell}
+use Rattle.ushanderi.specs.Answers.{DONE, accepted}
 use Rattle.ushanderi.specs.declared.answer.Answer.{Answer}
 use Rattle.ushanderi.specs.declared.answer.MetAnswer.{MetAnswer}
-use Rattle.ushanderi.specs.declared.reports.DensityAnswer.{DensityAnswer}
-use Rattle.ushanderi.specs.Promises.{Unfit, Fit, FreshSays, CheckSays, ViewSays, FindSays, listed, NeighboursSays, SearchSays, EnumerateSays, DensitySays, CreateAllows, CreateSays, DeleteSays, SaveSays, LoadSays}
-use Rattle.claims.specs.AgreeChecks.{fit_forms, not_fit, number_is, met_number}
-use Rattle.claims.specs.AgreeReads.{fresh_agrees, check_agrees, view_placed, enumerate_agrees}
-use Rattle.claims.specs.AgreeCreate.{create_done}
-use Rattle.claims.specs.AgreeDelete.{delete_done}
+use Rattle.ushanderi.specs.Promises.{FreshSays, CheckSays, LoadSays}
+use Rattle.claims.specs.AgreeChecks.{met_number}
+use Rattle.claims.specs.AgreeReads.{fresh_agrees, check_agrees}
 use Rattle.claims.specs.History.{Among, Distinct, filed_at, filed, Begins, History}
 use Rattle.claims.specs.HistoryAccount.{filed_among}
-use Rattle.claims.specs.HistoryKept.{built_kept}
-use Rattle.claims.specs.Draws.{fresh_draws}
-use Rattle.claims.specs.Allowed.{never_refused, find_is, search_free, deletes, saves}
+use Rattle.claims.specs.Allowed.{deletes, saves}
 use Rattle.claims.proofs.CleanFile.{clean_loads}
 use Rattle.claims.proofs.HistoryKept.{history_kept}
-use Rattle.claims.specs.Examples.{ABC}
-use Rattle.claims.specs.ExamplesHold.{second_done, after_A}
-use Rattle.claims.specs.Terms.{Shows, Created, Clean}
-use Rattle.claims.specs.Drawing.{area, A, B, C, Draws, area_of}
+use Rattle.claims.specs.Terms.{Shows, Clean}
+use Rattle.claims.specs.Drawing.{Draws}
 use Rattle.claims.specs.Shams.{NoRefusal, accepts, fresh_shows, load_writes, no_refused_create, no_refused_density, no_refused_enumerate, no_refused_find, no_refused_fresh, no_refused_neighbours, no_refused_search}
 
 pub no_refusal : NoRefusal

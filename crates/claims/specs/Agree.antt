@@ -8,9 +8,6 @@ use Rattle.ushanderi.specs.declared.answer.Answer.{Answer}
 use Rattle.ushanderi.specs.declared.answer.MetAnswer.{MetAnswer}
 use Rattle.ushanderi.specs.declared.reports.DensityAnswer.{DensityAnswer}
 use Rattle.ushanderi.specs.Promises.{Fit, FreshSays, CheckSays, ViewSays, FindSays, NeighboursSays, SearchSays, EnumerateSays, DensitySays, CreateSays, DeleteSays, SaveSays, LoadSays}
-use Rattle.claims.specs.AgreeReads.{fresh_agrees, check_agrees, places_agree, view_placed, view_agrees, find_agrees, neighbours_agrees, search_agrees, enumerate_agrees, save_agrees}
-use Rattle.claims.specs.AgreeReports.{density_agrees}
-use Rattle.claims.specs.AgreePicture.{space_agrees}
 use Rattle.claims.specs.Terms.{SamePicture, SameTiles, CreateAgrees, DeleteAgrees, LoadAgrees}
 
 pub record Agreement : Type 0 where

@@ -14,10 +14,10 @@ use Rattle.ushanderi.specs.declared.answer.MetAnswer.{MetAnswer}
 use Rattle.ushanderi.specs.Edits.{drawn, Adds, Edited}
 use Rattle.ushanderi.specs.Promises.{Fit, CreateRefuses, CreateSays}
 use Rattle.ushanderi.specs.Editing.{refusal}
-use Rattle.claims.specs.AgreeChecks.{Then, stops, goes, both, same, join, NotFit, not_fit, UnfitMet, unfit_met_agrees, met_one, met_number, one_cell, not_done, unfit_not_done}
+use Rattle.claims.specs.AgreeChecks.{Then, stops, goes, both, same, join, NotFit, not_fit, UnfitMet, met_one, met_number, one_cell, not_done}
 use Rattle.claims.specs.AgreePicture.{picture_turned, shows, picture_count}
-use Rattle.claims.specs.AgreeTables.{Alike, alike_self, alike_turned}
-use Rattle.claims.specs.Terms.{Shows, SamePicture, OneCell, CreateAgrees, Created}
+use Rattle.claims.specs.AgreeTables.{Alike, alike_turned}
+use Rattle.claims.specs.Terms.{Shows, SamePicture, OneCell, Created}
 
 -- ---- create's checks in their order
 pub record Met (t : List ℤ) (A : Area) : Type 0 where

@@ -1,6 +1,6 @@
 -- Two answers that delete's promise allows agree wholly, and so do their solids, record by record. Assumes nothing.
-use Rattle.std.specs.Prelude.{◌≡◌, ◌≢◌, List, ℕ, ℤ, pos}
-use Rattle.std.proofs.Common.{sym, ap, ◌∙◌, subst, arith}
+use Rattle.std.specs.Prelude.{◌≡◌, List, ℕ, ℤ, pos}
+use Rattle.std.proofs.Common.{sym, ◌∙◌, subst, arith}
 use Rattle.geometry.specs.Picture.{InPlane}
 use Rattle.table.specs.Sound.{SolidIn, SpaceIn}
 use Rattle.seek.specs.Find.{Finds}
@@ -8,9 +8,8 @@ use Rattle.ushanderi.specs.Answers.{DONE, POINT, SPACE, ROOM, accepted, refused}
 use Rattle.ushanderi.specs.declared.answer.Answer.{Answer}
 use Rattle.ushanderi.specs.Edits.{Removes, label_in, NoRoom}
 use Rattle.ushanderi.specs.Promises.{Unfit, Fit, DeleteRefuses, DeleteDone, DeleteSays}
-use Rattle.claims.specs.AgreeChecks.{Then, stops, goes, same, join, NotFit, not_fit, unfit_agrees, fit_finds_one, finds_inside, number_is, not_done, unfit_not_done}
-use Rattle.claims.specs.AgreeCreate.{edited_fit}
-use Rattle.claims.specs.Terms.{SamePicture, SameRecords, DeleteAgrees}
+use Rattle.claims.specs.AgreeChecks.{Then, stops, goes, join, NotFit, not_fit, fit_finds_one, finds_inside, number_is, not_done, unfit_not_done}
+use Rattle.claims.specs.Terms.{SamePicture, SameRecords}
 
 -- ---- delete's checks in their order
 -- a space tile holds the cell

@@ -1,20 +1,20 @@
 -- Two sound tables of one length and one picture are one table but for the numbers of their records: the tiles agree, stitches name tiles that agree,
 -- and the other records are as many, all zeros. What a reader must believe about the records that 01 leaves open. Assumes nothing.
 use Rattle.std.specs.Prelude.{◌≡◌, refl, List, ℤ, length, eqb}
-use Rattle.std.proofs.Common.{sym, ap, subst, subst₂, arith}
-use Prim.Native.Nat.{ℕ, ◌+◌, ◌-◌, ◌/◌, ◌<◌}
+use Rattle.std.proofs.Common.{sym, ap, subst, arith}
+use Prim.Native.Nat.{ℕ, ◌+◌, ◌/◌, ◌<◌}
 use Rattle.geometry.specs.Cases.{lt_cases, eq_cases}
 use Rattle.geometry.specs.Sums.{sum_add, sum_ext, sum_const}
-use Rattle.geometry.specs.Picture.{ZERO, LOW, HIGH, FREE, SPACE, SOLID, InPlane, Has}
+use Rattle.geometry.specs.Picture.{LOW, HIGH, FREE, SPACE, SOLID, InPlane}
 use Rattle.geometry.specs.Tiling.{Kinded}
 use Rattle.geometry.specs.Counting.{only, count}
-use Rattle.table.specs.Words.{WIDTH, TR, RT, BL, LB, KIND, records_of, num, tile_of}
-use Rattle.table.specs.Sound.{Named, Names, solid_at, space_at, solids_in, spaces_in}
+use Rattle.table.specs.Words.{WIDTH, KIND, records_of, num, tile_of}
+use Rattle.table.specs.Sound.{solid_at, space_at, solids_in, spaces_in}
 use Rattle.ushanderi.specs.Promises.{Fit}
-use Rattle.claims.specs.AgreeChecks.{fit_forms, fit_finds_one}
-use Rattle.claims.specs.AgreePicture.{picture_turned, space_agrees, picture_count}
-use Rattle.claims.specs.Pictures.{twin, same_spaces}
-use Rattle.claims.specs.Terms.{SamePicture, Twins, SameStitch, SameStitches, free_at, free_in, Renumbered}
+use Rattle.claims.specs.AgreeChecks.{fit_forms}
+use Rattle.claims.specs.AgreePicture.{picture_turned, picture_count}
+use Rattle.claims.specs.Pictures.{same_spaces}
+use Rattle.claims.specs.Terms.{SamePicture, free_at, free_in}
 
 -- ---- what agrees
 -- ---- two sound tables of one length and one picture

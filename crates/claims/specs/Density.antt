@@ -3,7 +3,6 @@
 use Rattle.std.specs.Prelude.{◌≡◌, ◌↔◌, List, ℕ, ◌+◌, ◌*◌, ◌≤◌, ◌<◌, ◌^◌, ℤ, pos, T, Float, get_or}
 use Rattle.std.proofs.Common.{sym, ap, ap₂, ◌∙◌, subst, subst₂, mul-pos, arith}
 use Rattle.std.specs.Float.Ieee as Ieee
-use Rattle.std.specs.Float.Ieee.{below}
 use Rattle.geometry.specs.Cases.{lt_cases}
 use Rattle.seek.specs.Meaning.{Area}
 use Rattle.density.specs.Meaning.{covered, columns_of, rows_of, windows_of, window_at, count_of}

@@ -14,7 +14,7 @@ use Rattle.claims.specs.AgreeChecks.{solid_used}
 use Rattle.claims.specs.AgreePicture.{shows, tile_once}
 use Rattle.claims.specs.AgreeCreate.{edited_fit}
 use Rattle.claims.specs.AgreeLoad.{fresh_fit}
-use Rattle.claims.specs.History.{Among, History, Kept}
+use Rattle.claims.specs.History.{Among, Kept}
 use Rattle.claims.specs.Terms.{Shows, SamePicture}
 use Rattle.claims.specs.Drawing.{Draws}
 

@@ -39,7 +39,7 @@ use Rattle.claims.specs.Allowed.{find_is, find_point, search_free, search_met, n
 use Rattle.claims.specs.Examples
 use Rattle.claims.specs.Examples.{Answers, AnswersAt, Lends, Example, holds, AllHold, end, ◌and◌, ABC, bottom_strip, left_of_a, gap, right_of_b, strip10to15, left_of_c, right_of_c, top_strip, examples}
 use Rattle.claims.specs.Terms.{Shows, SamePicture, Created}
-use Rattle.claims.specs.Drawing.{solid, space, area, neg, E, -E, A, B, C, D, W, Draws, area_of, full, blank}
+use Rattle.claims.specs.Drawing.{space, area, neg, E, -E, A, B, C, D, W, Draws, area_of, full, blank}
 
 -- an entry of a list stands in it
 times_at : (ks : List ℕ) (n : ℕ) → n < length ks → 1 ≤ times (get_or ks n 0) ks

@@ -6,11 +6,11 @@ use Rattle.geometry.specs.Picture.{Tile}
 use Rattle.table.specs.Sound.{SizeRight}
 use Rattle.table.specs.Fresh.{fresh_table}
 use Rattle.seek.specs.Meaning.{Area}
-use Rattle.layout.specs.Bytes.{saved_at, SAVED}
+use Rattle.layout.specs.Bytes.{SAVED}
 use Rattle.ushanderi.specs.Answers.{DONE, SIZE, FILE}
 use Rattle.ushanderi.specs.declared.answer.Answer.{Answer}
 use Rattle.ushanderi.specs.declared.answer.MetAnswer.{MetAnswer}
-use Rattle.ushanderi.specs.Promises.{Fit, FreshSays, CreateRefuses, CreateSays, DeleteSays, area_in, Built, LoadStops, LoadSays}
+use Rattle.ushanderi.specs.Promises.{Fit, FreshSays, CreateRefuses, CreateSays, DeleteSays, Built, LoadStops, LoadSays}
 use Rattle.claims.specs.AgreeChecks.{not_fit, number_is, met_number, number_one, not_done}
 use Rattle.claims.specs.AgreeCreate.{refuses_not_done}
 use Rattle.claims.specs.History.{Begins, Step}

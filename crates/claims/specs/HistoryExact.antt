@@ -1,7 +1,7 @@
 -- A create within 01's limits is refused exactly for overlap or for N solids, never for want of a record; and every sound table has a free record.
 -- Assumes nothing.
-use Rattle.std.specs.Prelude.{◌≡◌, Bool, true, false, ◌≢◌, ◌↔◌, ◌⊎◌, List, ℕ, ◌+◌, ◌≤◌, ◌<◌, ℤ, pos, length, T}
-use Rattle.std.proofs.Common.{sym, ◌∙◌, subst, inl, inr, ⊎_elim, arith}
+use Rattle.std.specs.Prelude.{◌≡◌, Bool, true, false, ◌≢◌, ◌↔◌, ◌⊎◌, List, ℕ, ◌+◌, ◌≤◌, ◌<◌, ℤ, pos, T}
+use Rattle.std.proofs.Common.{sym, subst, inl, inr, ⊎_elim, arith}
 use Rattle.geometry.specs.Sums.{sum_add, sum_mono, sum_const}
 use Rattle.geometry.specs.Picture.{ZERO, SPACE, SOLID, Tile}
 use Rattle.geometry.specs.Tiling.{Kinded, eq→eqb}
@@ -17,7 +17,7 @@ use Rattle.ushanderi.specs.Edits.{NoRoom}
 use Rattle.ushanderi.specs.Promises.{Unfit, Fit, CreateRefuses, CreateSays, DeleteRefuses, DeleteSays}
 use Rattle.claims.specs.AgreeChecks.{not_fit, fit_forms, number_is, met_number, number_one, not_done}
 use Rattle.claims.specs.AgreePicture.{shows}
-use Rattle.claims.specs.History.{Among, History, Kept}
+use Rattle.claims.specs.History.{Among, Kept}
 use Rattle.claims.specs.Terms.{Shares}
 
 -- ---- create

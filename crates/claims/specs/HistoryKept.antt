@@ -1,9 +1,9 @@
 -- Over all histories: the table is sound, its solids are exactly those accepted and not deleted, and what follows from that. Assumes nothing.
-use Rattle.std.specs.Prelude.{◌≡◌, refl, ◌≢◌, ◌↔◌, List, [], ◌∷◌, ℕ, zero, suc, ◌/◌, ◌<◌, ◌^◌, ℤ, length, get_or}
+use Rattle.std.specs.Prelude.{◌≡◌, refl, ◌≢◌, ◌↔◌, List, [], ◌∷◌, ℕ, zero, suc, ◌<◌, ◌^◌, ℤ, length, get_or}
 use Rattle.std.proofs.Common.{sym, ap, ◌∙◌, subst, ⊎_elim, arith}
 use mathlib.Core.List.Memᴰ
 use Rattle.geometry.specs.Cases.{eq_cases}
-use Rattle.geometry.specs.Picture.{SPACE, SOLID, Tile, Has, Limits, In, number, Apart, Strip, TileOf, Drawn}
+use Rattle.geometry.specs.Picture.{SPACE, SOLID, Tile, Has, Limits, In, Apart, Strip, TileOf, Drawn}
 use Rattle.geometry.specs.Runs.{SameSolids, same_turned}
 use Rattle.geometry.specs.Tiling.{one_holder}
 use Rattle.geometry.specs.DrawnWidest.{drawn_count, same_tile_of}
@@ -13,17 +13,16 @@ use Rattle.table.specs.Fresh.{fresh_table}
 use Rattle.table.specs.FreshSound.{OneTile, fresh_one}
 use Rattle.table.proofs.Forms.{sound_three}
 use Rattle.seek.specs.Meaning.{Area}
-use Rattle.layout.specs.Bytes.{saved_at, SAVED}
+use Rattle.layout.specs.Bytes.{saved_at}
 use Rattle.ushanderi.specs.Edits.{drawn}
 use Rattle.ushanderi.specs.Promises.{Fit, CreateDone, DeleteDone, area_in, Built}
 use Rattle.claims.specs.AgreeChecks.{fit_forms, fit_finds_one, solid_used}
-use Rattle.claims.specs.AgreePicture.{shows, space_agrees, own_solids, in_solid, solid_in, own_apart, own_drawn}
+use Rattle.claims.specs.AgreePicture.{shows, own_solids, in_solid, solid_in, own_apart, own_drawn}
 use Rattle.claims.specs.AgreeCreate.{edited_fit}
 use Rattle.claims.specs.AgreeLoad.{fresh_fit}
-use Rattle.claims.specs.History.{Among, Distinct, without, filed, Begins, Step, History, blank, set_of, space_tile, Kept}
+use Rattle.claims.specs.History.{Among, Distinct, without, filed, blank, set_of, space_tile, Kept}
 use Rattle.claims.specs.HistoryAccount.{filed_label, among_without, without_among, distinct_without, at_among, among_at, distinct_at, set_number}
-use Rattle.claims.specs.HistoryCalls.{fresh_done, fresh_left, load_done, load_fresh}
-use Rattle.claims.specs.Terms.{Shows, SameTiles}
+use Rattle.claims.specs.Terms.{Shows}
 
 -- what the steps carry on
 pub record Shown (t : List ℤ) (S : List Tile) : Type 0 where

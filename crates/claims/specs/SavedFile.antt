@@ -1,33 +1,24 @@
 -- What save writes is a file that load takes, of the same picture; and save depends on the picture alone. Assumes nothing.
-use Rattle.std.specs.Prelude.{◌≡◌, ℕ, suc, ◌*◌, ◌/◌, ◌≤◌, ◌<◌, ℤ, length, get_or, take, drop}
+use Rattle.std.specs.Prelude.{◌≡◌, ℕ, suc, ◌*◌, ◌/◌, ◌<◌, ℤ, length, get_or, take, drop}
 use Rattle.std.proofs.Math.Path.{refl, ap, ap₂}
-use Rattle.std.proofs.Common.{sym, ◌∙◌, subst, arith, take_at}
+use Rattle.std.proofs.Common.{sym, ◌∙◌, arith, take_at}
 use mathlib.Core.List.{List, [], ◌∷◌, ◌++◌, map}
 use Rattle.std.proofs.lemmas.List.{length-map}
-use Rattle.std.proofs.Math.ListN.{get_or-map}
-use Rattle.geometry.specs.Picture.{ZERO, Tile, Has, Limits}
-use Rattle.geometry.specs.Tiling.{tile_ext, paint_ext}
-use Rattle.table.specs.Words.{tile_of}
-use Rattle.table.specs.Sound.{solids_in, SolidIn}
-use Rattle.seek.specs.Meaning.{Area, InArea, RectRight, Lists}
+use Rattle.geometry.specs.Picture.{Tile}
+use Rattle.table.specs.Sound.{SolidIn}
+use Rattle.seek.specs.Meaning.{Area, Lists}
 use Rattle.layout.specs.declared.bytes.Saved.{Saved}
-use Rattle.layout.specs.Bytes.{file_bytes, saved_at, SAVED}
-use Rattle.layout.specs.BytesLaws.{file_length, saved_file_lem}
-use Rattle.layout.specs.Order.{Comes, saved_of, Saves, LabelsFit}
-use Rattle.layout.specs.OneOrder.{comes_asym, order_length}
-use Rattle.layout.specs.RoundTrip.{solids_fit}
+use Rattle.layout.specs.Bytes.{file_bytes, SAVED}
+use Rattle.layout.specs.BytesLaws.{file_length}
+use Rattle.layout.specs.Order.{Comes, saved_of, Saves}
 use Rattle.ushanderi.specs.Answers.{SHORT, answered}
 use Rattle.ushanderi.specs.declared.answer.Answer.{Answer}
-use Rattle.ushanderi.specs.Promises.{Fit, SaveSays, area_in}
-use Rattle.claims.specs.AgreeChecks.{fit_forms, solid_used, not_fit}
-use Rattle.claims.specs.AgreePicture.{own_apart, solid_in}
+use Rattle.ushanderi.specs.Promises.{Fit, SaveSays}
+use Rattle.claims.specs.AgreeChecks.{solid_used, not_fit}
 use Rattle.claims.specs.AgreeReads.{save_agrees}
-use Rattle.claims.specs.History.{Among, filed, filed_at, Kept}
-use Rattle.claims.specs.HistoryAccount.{filed_among, among_filed}
 use Rattle.claims.specs.Pictures.{solid_by, renamed, renamed_twin}
 use Rattle.claims.specs.Renamed.{lists_renamed}
-use Rattle.claims.specs.Terms.{SamePicture, Twins, Clean}
-use Rattle.claims.specs.Drawing.{area_of}
+use Rattle.claims.specs.Terms.{SamePicture, Twins}
 
 -- what is saved of a solid, as the rectangle of a create
 abbrev pub area_by : Saved → Area

@@ -1,5 +1,5 @@
 -- Sham programs that the promises shut out: what each of them would answer, or leave in the table, is allowed by no promise. Assumes nothing.
-use Rattle.std.specs.Prelude.{◌≡◌, refl, ◌≢◌, List, ◌∷◌, ℕ, ◌*◌, ◌/◌, ◌%◌, ◌≤◌, ◌<◌, ℤ, pos, negsuc, Float, length}
+use Rattle.std.specs.Prelude.{◌≡◌, refl, ◌≢◌, List, ℕ, ◌*◌, ◌/◌, ◌%◌, ◌≤◌, ◌<◌, ℤ, pos, negsuc, Float, length}
 use Rattle.std.proofs.Common.{sym, ap, ◌∙◌, subst, arith}
 use mathlib.Core.List.Memᴰ
 use Rattle.ruler.specs.Ruler.{ruler}
@@ -10,7 +10,6 @@ use Rattle.table.specs.Words.{WIDTH, records_of, tile_of}
 use Rattle.table.specs.Sound.{SizeRight, capacity, solids_in, SolidIn}
 use Rattle.table.specs.View.{Places, Slice, IsPart}
 use Rattle.table.specs.Fresh.{fresh_table}
-use Rattle.table.specs.FreshSound.{fresh_length}
 use Rattle.seek.specs.Meaning.{Area, InArea, RectRight, FreeArea, Directed}
 use Rattle.seek.specs.Find.{Finds}
 use Rattle.seek.specs.Neighbours.{side_of, Neighbours}
@@ -22,14 +21,13 @@ use Rattle.ushanderi.specs.declared.answer.MetAnswer.{MetAnswer}
 use Rattle.ushanderi.specs.declared.reports.DensityAnswer.{DensityAnswer}
 use Rattle.ushanderi.specs.Promises.{Unfit, Fit, FreshSays, CheckSays, ViewSays, FindSays, listed, NeighboursSays, SearchSays, EnumerateSays, DensitySays, CreateAllows, CreateSays, DeleteSays, SaveSays, LoadSays}
 use Rattle.claims.specs.AgreeChecks.{fit_forms, not_fit, number_is, met_number}
-use Rattle.claims.specs.AgreeReads.{fresh_agrees, check_agrees, view_placed, enumerate_agrees}
+use Rattle.claims.specs.AgreeReads.{view_placed, enumerate_agrees}
 use Rattle.claims.specs.AgreeCreate.{create_done}
 use Rattle.claims.specs.AgreeDelete.{delete_done}
-use Rattle.claims.specs.History.{Among, Distinct, filed_at, filed, Begins, History}
-use Rattle.claims.specs.HistoryAccount.{filed_among}
+use Rattle.claims.specs.History.{Among, filed}
 use Rattle.claims.specs.HistoryKept.{built_kept}
 use Rattle.claims.specs.Draws.{fresh_draws}
-use Rattle.claims.specs.Allowed.{never_refused, find_is, search_free, deletes, saves}
+use Rattle.claims.specs.Allowed.{never_refused, find_is, search_free}
 use Rattle.claims.specs.Examples.{ABC}
 use Rattle.claims.specs.ExamplesHold.{second_done, after_A}
 use Rattle.claims.specs.Terms.{Shows, Created, Clean}

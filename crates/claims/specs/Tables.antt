@@ -1,5 +1,5 @@
 -- 01's drawn rectangles, and tables written out that draw them: A, A and B, A to C, A to C with the gap filled, the whole plane as one solid. Assumes nothing.
-use Rattle.std.specs.Prelude.{◌≡◌, refl, List, [], ◌∷◌, ◌++◌, ◌-◌, ◌%◌, ℤ, pos, length, T, eqb, leb}
+use Rattle.std.specs.Prelude.{◌≡◌, refl, List, [], ◌∷◌, ◌++◌, ◌%◌, ℤ, pos, length, T, eqb, leb}
 use Rattle.std.proofs.Common.{eqb→eq, leb→le}
 use Rattle.ruler.specs.Ruler.{ruler}
 use Rattle.geometry.specs.Counting.{sum_to, count}

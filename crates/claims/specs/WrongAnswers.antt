@@ -4,7 +4,7 @@ use Rattle.std.proofs.Common.{sym, ap₂, ◌∙◌, subst, ⊎_elim, zero-add, 
 use Rattle.std.proofs.Math.Path.{ap}
 use Rattle.std.proofs.Math.Nat.{sub-zero, zero-div, zero-mod}
 use Rattle.std.proofs.lemmas.List.{length-map}
-use Rattle.geometry.specs.Picture.{ZERO, InPlane, Has, Side, top, right, bottom, left}
+use Rattle.geometry.specs.Picture.{Has, Side, top, right, bottom, left}
 use Rattle.geometry.specs.Tiling.{space_is}
 use Rattle.table.specs.Words.{LEFT, BOTTOM, RIGHT, TOP, records_of, num, tile_of}
 use Rattle.table.specs.Sound.{SizeRight, Sound, UsedIn, capacity, solids_in, spaces_in, SolidIn, SpaceIn}
@@ -12,12 +12,11 @@ use Rattle.table.specs.Fresh.{fresh_table}
 use Rattle.table.specs.View.{Numbers, Places, Slice}
 use Rattle.table.specs.Forms.{used_is}
 use Rattle.table.specs.Examples.{one, one_spaces, one_solids}
-use Rattle.seek.specs.Meaning.{Area, RectRight}
+use Rattle.seek.specs.Meaning.{Area}
 use Rattle.seek.specs.Find.{Finds}
 use Rattle.seek.specs.Neighbours.{Touches, Neighbours}
-use Rattle.density.specs.Meaning.{covered, Steps, columns_of, windows_of, window_at, count_of}
+use Rattle.density.specs.Meaning.{covered, columns_of, windows_of, window_at, count_of}
 use Rattle.density.specs.Shares.{float, quotient, share_of}
-use Rattle.density.specs.declared.shares.Density.TheVariants.{Bare, Filled}
 use Rattle.density.specs.ShareOrder.{share_is}
 use Rattle.density.specs.Report.{Written}
 use Rattle.density.specs.Windows.{some_window}
@@ -28,15 +27,14 @@ use Rattle.layout.specs.Order.{saved_of}
 use Rattle.layout.specs.Bytes.{file_bytes, SAVED}
 use Rattle.layout.specs.BytesLaws.{file_length}
 use Rattle.layout.specs.OneOrder.{saves_bytes}
-use Rattle.ushanderi.specs.Answers.{DONE, POINT, RECT, LABEL, FULL, SHORT, STEP, answered, accepted, refused, without_cell, reported, unreported}
+use Rattle.ushanderi.specs.Answers.{DONE, FULL, SHORT, answered, accepted, without_cell, reported, unreported}
 use Rattle.ushanderi.specs.declared.answer.Answer.{Answer}
 use Rattle.ushanderi.specs.declared.answer.MetAnswer.{MetAnswer}
 use Rattle.ushanderi.specs.declared.reports.DensityAnswer.{DensityAnswer}
 use Rattle.ushanderi.specs.Edits.{label_in}
 use Rattle.ushanderi.specs.Promises.{Unfit, Fit, FreshSays, CheckSays, ViewSays, FindSays, listed, NeighboursSays, EnumerateSays, DensitySays, CreateRefuses, CreateSays, DeleteSays, SaveSays, LoadStops, LoadSays}
 use Rattle.claims.specs.AgreeChecks.{fit_forms, number_is, met_number, number_one, not_done, unfit_not_done}
-use Rattle.claims.specs.AgreeReads.{neighbours_agrees}
-use Rattle.claims.specs.AgreeReports.{density_agrees, report_number, density_done}
+use Rattle.claims.specs.AgreeReports.{report_number, density_done}
 use Rattle.claims.specs.AgreeCreate.{edited_fit, create_done}
 use Rattle.claims.specs.AgreeDelete.{delete_done}
 use Rattle.claims.specs.Allowed.{deletes}

@@ -1,5 +1,5 @@
 -- What one turn of the loop writes, and that it goes on with the report. Assumes nothing.
-use Rattle.std.specs.Prelude.{◌≡◌, List, ℤ, ℕ, suc, ◌+◌, ◌*◌, ◌<◌, min, max, Float, length, get_or, set}
+use Rattle.std.specs.Prelude.{◌≡◌, List, ℤ, ℕ, ◌+◌, ◌*◌, ◌<◌, min, max, Float, length, get_or, set}
 use Rattle.std.proofs.Common.{sym, ap, ap₂, ◌∙◌, subst, arith, length-set, get_or-set_same, get_or-set_other}
 use Rattle.std.specs.Float.Ieee as Ieee
 use Rattle.std.specs.Float.{nan}

@@ -1,5 +1,5 @@
 -- The covered cells of an area, as a sum over the records: each solid gives the cells of its part in the area. Assumes nothing.
-use Rattle.std.specs.Prelude.{◌≡◌, refl, ◌↔◌, Bool, true, false, ◌&&◌, List, ℕ, ◌+◌, ◌-◌, ◌*◌, ◌≤◌, ◌<◌, min, max, ℤ, T, leb, ltb}
+use Rattle.std.specs.Prelude.{◌≡◌, refl, ◌↔◌, Bool, true, false, ◌&&◌, List, ℕ, ◌+◌, ◌*◌, ◌≤◌, ◌<◌, min, max, ℤ, T, leb, ltb}
 use Rattle.std.proofs.Common.{ap₂, ◌∙◌, mul-zero, leb→le, ltb→lt, le→leb, lt→ltb}
 use native.Mathlib.Omega.{arith}
 use Rattle.geometry.specs.Cases.{only_T, only_le, T_only, T_and, and_l, and_r}

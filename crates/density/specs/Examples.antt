@@ -1,5 +1,5 @@
 -- The definitions are tried: covered cells, windows and shares worked out on a table written out, 01's A, B and C. Assumes nothing.
-use Rattle.std.specs.Prelude.{◌≡◌, refl, List, [], ◌∷◌, ℕ, zero, suc, ◌≤◌, ◌<◌, pos, Float, get_or}
+use Rattle.std.specs.Prelude.{◌≡◌, refl, ℕ, pos, Float}
 use Rattle.std.proofs.Common.{arith}
 use Rattle.std.specs.Float.Ieee as Ieee
 use Rattle.std.specs.Float.{binary64}
@@ -9,9 +9,7 @@ use Rattle.table.specs.Words.{num}
 use Rattle.table.specs.Examples.{abc}
 use Rattle.seek.specs.Meaning.{Area}
 use Rattle.density.specs.Meaning.{any_to, covered, Steps, windows_of, window_of, count_of}
-use Rattle.density.specs.Shares.{float, share_of}
-use Rattle.density.specs.Report.{Lowest, Highest, Written, Reports}
-use Rattle.density.specs.declared.windows.Report.{Report}
+use Rattle.density.specs.Shares.{share_of}
 
 abbrev area : ℕ → ℕ → ℕ → ℕ → Area
 area l b r t = record { left = ruler (pos l); bottom = ruler (pos b); right = ruler (pos r); top = ruler (pos t) }

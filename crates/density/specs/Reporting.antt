@@ -1,17 +1,17 @@
 -- The loop that works a report out, window by window, and that it gives one. Assumes nothing.
-use Rattle.std.specs.Prelude.{◌≡◌, refl, List, ℤ, Float, length, get_or, set}
-use Rattle.std.proofs.Common.{sym, ap, ap₂, ◌∙◌, subst, mul-le-mul, mul_comm, div-le_self, add-one, length-set, get_or-set_same, get_or-set_other}
-use Prim.Native.Nat.{ℕ, zero, suc, ◌+◌, ◌-◌, ◌*◌, ◌≤◌, ◌<◌, ◌^◌, min, max}
+use Rattle.std.specs.Prelude.{◌≡◌, refl, List, ℤ, Float, length, get_or}
+use Rattle.std.proofs.Common.{ap, ap₂, ◌∙◌, subst, mul-le-mul, mul_comm, div-le_self, add-one}
+use Prim.Native.Nat.{ℕ, zero, suc, ◌+◌, ◌*◌, ◌≤◌, ◌<◌, ◌^◌, min, max}
 use native.Mathlib.Omega.{arith}
 use Rattle.geometry.specs.Cases.{lt_cases, below_suc}
 use Rattle.geometry.specs.Counting.{sum_to}
 use Rattle.geometry.specs.Sums.{sum_prefix}
 use Rattle.seek.specs.Meaning.{Area, RectRight}
-use Rattle.density.specs.Meaning.{width_of, height_of, covered, Steps, columns_of, rows_of, windows_of, window_of, count_of}
+use Rattle.density.specs.Meaning.{width_of, height_of, Steps, columns_of, rows_of, windows_of, window_of, count_of}
 use Rattle.density.specs.Shares.{float, share_of}
 use Rattle.density.specs.Report.{Written, Reports}
 use Rattle.density.specs.Cover.{covered_most}
-use Rattle.density.specs.Summing.{sum_next, covered_small}
+use Rattle.density.specs.Summing.{covered_small}
 use Rattle.density.specs.Windows.{place, some_window, covered_windows}
 use Rattle.density.specs.declared.windows.Report.{Report}
 

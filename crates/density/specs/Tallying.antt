@@ -1,11 +1,11 @@
 -- The loop that makes shares of the counts in the lent list. Assumes nothing.
-use Rattle.std.specs.Prelude.{◌≡◌, List, ℕ, ◌+◌, ◌*◌, ◌≤◌, ◌<◌, ◌^◌, min, max, T, ℤ, Float, length, get_or, set}
+use Rattle.std.specs.Prelude.{◌≡◌, List, ℕ, ◌+◌, ◌≤◌, ◌<◌, ◌^◌, T, ℤ, Float, length, get_or}
 use Rattle.std.proofs.Common.{◌∙◌, le_refl, arith}
 use Rattle.std.specs.Float.Ieee as Ieee
 use Rattle.std.specs.Float.{nan, binary64}
 use Rattle.seek.specs.Meaning.{Area, RectRight}
 use Rattle.density.specs.Meaning.{Steps, windows_of, count_of}
-use Rattle.density.specs.Shares.{float, share_of}
+use Rattle.density.specs.Shares.{float}
 use Rattle.density.specs.Counts.{Counted, read_any, float_back}
 use Rattle.density.specs.Reporting.{Reporting, small, count_most, total_small}
 

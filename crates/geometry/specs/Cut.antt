@@ -3,7 +3,7 @@ use Rattle.std.specs.Prelude.{◌≡◌, refl, not, ◌≢◌, ℕ, ◌≤◌, �
 use Rattle.std.proofs.Common.{sym, ap, ◌∙◌, subst, arith, T_not}
 use Rattle.geometry.specs.Cases.{lt_cases, eq_cases}
 use Rattle.geometry.specs.Plane.{Plane, Is, Holds, Formed, WellFormed, Covered, Disjoint}
-use Rattle.geometry.specs.Stitches.{UpAt, DownAt, HoldsUp, HoldsDown, same}
+use Rattle.geometry.specs.Stitches.{UpAt, DownAt, HoldsUp, HoldsDown}
 
 -- tile i's rectangle in Q is tile i's in P
 pub record SameBox (P Q : Plane) (i : ℕ) : Type 0 where

@@ -4,7 +4,7 @@ use Rattle.std.proofs.Common.{sym, subst, arith, T_not}
 use Rattle.geometry.specs.Cases.{lt_cases, eq_cases}
 use Rattle.geometry.specs.Plane.{Plane, Is, Holds, WellFormed}
 use Rattle.geometry.specs.Strips.{Strips, Space}
-use Rattle.geometry.specs.Stitches.{Stitches, Good, same_tile, same, up_one, down_one}
+use Rattle.geometry.specs.Stitches.{Stitches, Good, same_tile, up_one, down_one}
 use Rattle.geometry.specs.Turns.{swap, swap_is, is_swap, swap_holds, holds_swap}
 use Rattle.geometry.specs.Cut.{Cut, SameBox, not_fresh, is_after, is_before, which_before, holds_after, holds_made, holds_before, holds_joined}
 

@@ -1,7 +1,6 @@
 // Pure mathematics of tiles: the definitions and laws stand in specs/. What code hands on from layer to layer stands here.
 #![tactic(auto)]
 
-
 // What is painted on a tile, as numbers on the ruler.
 #[derive(Clone, Copy)]
 pub struct Paint {

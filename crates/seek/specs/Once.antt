@@ -9,7 +9,7 @@ use Rattle.table.specs.Words.{records_of}
 use Rattle.table.specs.Sound.{UsedIn}
 use Rattle.table.specs.Forms.{Forms}
 use Rattle.seek.specs.Meaning.{Area, Lists, Over, Root, Hangs, Tree, tree, Trees, none, more, Directed}
-use Rattle.seek.specs.Hanging.{same_numbers, hangs_beside, not_both_over, Under, self, below, under_from, under_used, under_right, Level, roots_level, hangs_level, under_one}
+use Rattle.seek.specs.Hanging.{same_numbers, hangs_beside, not_both_over, Under, self, under_from, under_used, under_right, Level, roots_level, hangs_level, under_one}
 
 -- ---- how often a number stands in a list
 

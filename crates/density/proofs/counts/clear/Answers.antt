@@ -1,6 +1,6 @@
 -- `density::counts::clear` meets its contract: the first i entries are 0.0. Assumes nothing.
 use mathlib.Core.Path.{◌≡◌, subst}
-use Prim.Native.Nat.{◌-◌, ◌≤◌, ◌<◌}
+use Prim.Native.Nat.{◌<◌}
 use native.Mathlib.Omega.{arith}
 use lib.ListN.{length}
 use Rattle.density.specs.ShareLaws.{zero_is}

@@ -1,10 +1,6 @@
 -- `density::counts::clear` meets its contract: the first i entries are 0.0. Assumes nothing.
-use mathlib.Core.Path.{◌≡◌, subst}
-use Prim.Native.Nat.{◌-◌, ◌≤◌, ◌<◌}
-use native.Mathlib.Omega.{arith}
-use lib.ListN.{length}
-use Rattle.density.specs.ShareLaws.{zero_is}
-use Rattle.density.specs.Counts.{Counts, counts_none, counts_next}
+use Prim.Native.Nat.{◌-◌, ◌≤◌}
+use Rattle.density.specs.Counts.{Counts}
 use Rattle.density.proofs.counts.clear.Given as goal
 
 abbrev pub invariant-loop-i : goal.invariant-loop-i

@@ -1,11 +1,8 @@
 -- `density::counts::tally` meets its contract: the first n windows are done. Assumes nothing.
 use mathlib.Core.Path.{refl, ap, ◌∙◌}
-use Prim.Native.Nat.{◌+◌, ◌-◌, ◌≤◌, ◌<◌, ◌^◌}
+use Prim.Native.Nat.{◌≤◌}
 use native.Mathlib.Omega.{arith}
-use lib.Dec.{T}
-use lib.Ieee as Ieee
-use lib.Ieee.{nan, binary64}
-use lib.ListN.{length, get_or}
+use lib.ListN.{length}
 use Rattle.std.specs.Prelude.{List, ℤ, ℕ, ◌≡◌}
 use lib.Ieee.{Float}
 use Rattle.seek.specs.Meaning.{Area, RectRight}
@@ -13,8 +10,8 @@ use Rattle.seek.specs.Enumerate.{area_of}
 use Rattle.density.specs.Meaning.{Steps, windows_of}
 use Rattle.density.specs.Counts.{Counted}
 use Rattle.density.specs.Shares.{share_of}
-use Rattle.density.specs.Reporting.{Reporting, windows_small, report_starts, report_ends, small, lowest_small, highest_small}
-use Rattle.density.specs.Tallying.{Ready, Tallying, tally_in, tally_back, tally_sum}
+use Rattle.density.specs.Reporting.{windows_small, report_starts, report_ends, small, lowest_small, highest_small}
+use Rattle.density.specs.Tallying.{Ready, tally_in, tally_back, tally_sum}
 use Rattle.density.proofs.Written.{tally_on}
 use Rattle.density.proofs.counts.tally.Goals as goal
 

@@ -1,12 +1,8 @@
 -- `density::reporting::report_all` meets its contract: the list takes all tiles of any table, and what is counted becomes the report. Assumes nothing.
 use mathlib.Core.Path.{sym, subst}
-use Prim.Native.Nat.{◌≤◌}
 use native.Mathlib.Omega.{arith}
-use lib.ListN.{length}
 use lib.Seq.{length-take-le}
-use Rattle.seek.specs.Enumerate.{area_of}
 use Rattle.seek.specs.Queue.{gathers_front}
-use Rattle.density.specs.Meaning.{windows_of, count_of}
 use Rattle.density.specs.Counts.{Counts}
 use Rattle.density.specs.Reporting.{report_from}
 use Rattle.density.proofs.reporting.report_all.Goals as goal

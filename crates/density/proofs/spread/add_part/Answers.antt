@@ -4,11 +4,11 @@ use Prim.Native.Nat.{ℕ, ◌+◌, ◌-◌, ◌*◌, ◌/◌, ◌≤◌, ◌<◌
 use native.Mathlib.Omega.{arith}
 use lib.ListN.{length}
 use Rattle.seek.specs.Meaning.{Area}
-use Rattle.seek.specs.Enumerate.{area_of, edges}
+use Rattle.seek.specs.Enumerate.{area_of}
 use Rattle.density.specs.Meaning.{windows_of, columns_of}
 use Rattle.density.specs.Reporting.{windows_small}
 use Rattle.density.specs.Row.{RowFits}
-use Rattle.density.specs.Parts.{PartFits, Started, Parting, start, part_less, row_fits, end_room, window_in, parting_starts, parting_on, parting_ends}
+use Rattle.density.specs.Parts.{PartFits, Started, start, part_less, row_fits, end_room, window_in, parting_starts, parting_on, parting_ends}
 use Rattle.density.proofs.spread.add_part.Goals as goal
 
 pub overflow_sub-left : goal.overflow_sub-left

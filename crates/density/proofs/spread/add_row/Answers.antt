@@ -1,9 +1,8 @@
 -- `density::spread::add_row` meets its contract: windows before i have got their parts. Assumes nothing.
-use mathlib.Core.Path.{◌≡◌, refl, sym, ◌∙◌, subst}
-use Prim.Native.Nat.{◌+◌, ◌-◌, ◌≤◌, ◌<◌, ◌^◌}
+use mathlib.Core.Path.{refl, sym, ◌∙◌, subst}
+use Prim.Native.Nat.{◌+◌}
 use native.Mathlib.Omega.{arith}
-use lib.ListN.{length}
-use Rattle.density.specs.Row.{RowFits, RowGoes, Adding, row_starts, row_on, row_less, row_inside, row_end_small, piece_small, adding_starts, adding_on, adding_ends}
+use Rattle.density.specs.Row.{Adding, row_starts, row_on, row_less, row_inside, row_end_small, piece_small, adding_starts, adding_on, adding_ends}
 use Rattle.density.proofs.spread.add_row.Goals as goal
 
 pub overflow_add-end : goal.overflow_add-end

@@ -1,11 +1,9 @@
 -- `density::spread::spread` meets its contract: the first j entries have given their cells. Assumes nothing.
-use mathlib.Core.Path.{◌≡◌, refl, sym, ◌∙◌, subst}
+use mathlib.Core.Path.{◌≡◌}
 use Prim.Native.Nat.{◌-◌, ◌≤◌}
-use native.Mathlib.Omega.{arith}
 use lib.ListN.{length}
-use Rattle.seek.specs.Meaning.{Meets}
 use Rattle.seek.specs.Enumerate.{area_of}
-use Rattle.density.specs.Spreading.{AddsTile, Spreading, spread_starts, spread_on, spread_ends}
+use Rattle.density.specs.Spreading.{Spreading}
 use Rattle.density.proofs.spread.spread.Given as goal
 
 abbrev pub invariant-loop-j : goal.invariant-loop-j

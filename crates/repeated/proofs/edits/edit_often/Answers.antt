@@ -1,9 +1,6 @@
 -- `edits::edit_often` meets its contract. The invariant: the first run and then the others keep the solids. Assumes nothing.
 use native.Mathlib.Omega.{arith}
-use mathlib.Core.List.{List}
-use Prim.Native.Nat.{◌-◌}
-use lib.IntN.{ℤ}
-use Rattle.repeated.specs.Edit.{CanEdit, Edited, edited_again}
+use Rattle.repeated.specs.Edit.{edited_again}
 use Rattle.repeated.proofs.edits.edit_often.Goals as goal
 
 pub loop-n-init : goal.loop-n-init

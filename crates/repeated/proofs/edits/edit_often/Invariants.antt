@@ -1,9 +1,8 @@
 -- `edits::edit_often` meets its contract. The invariant: the first run and then the others keep the solids. Assumes nothing.
-use native.Mathlib.Omega.{arith}
 use mathlib.Core.List.{List}
 use Prim.Native.Nat.{◌-◌}
 use lib.IntN.{ℤ}
-use Rattle.repeated.specs.Edit.{CanEdit, Edited, edited_again}
+use Rattle.repeated.specs.Edit.{CanEdit, Edited}
 use Rattle.repeated.proofs.edits.edit_often.Given as goal
 
 abbrev pub invariant-loop-n : goal.invariant-loop-n

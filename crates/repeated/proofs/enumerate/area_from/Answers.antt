@@ -1,6 +1,5 @@
 -- `enumerate::area_from` meets its contract: what is counted is what is listed, and it is at most the records. Assumes nothing.
 use mathlib.Core.Path.{refl}
-use mathlib.Core.Logic.{⊎_elim}
 use Prim.Native.Nat.{◌≤◌}
 use native.Mathlib.Omega.{arith}
 use lib.ListN.{length}
@@ -18,7 +17,7 @@ returns c =
     let n = writes_count _ _ _ _ c.list_area.ensures in
     let room : c.list_area.result ≤ length c.args.list.now =
     elim c.if-list-records.branch [
-      then-list-records+else-list-n w ↦ omega (arith, w.if-list-n.false, counts_area_one _ f _ _ _ w.count_area-n.ensures n)
-    | else-list-records w ↦ omega (arith, w.if-list-records.false, c.records.ensures, counts_area_short _ f _ _ n)
+      | then-list-records+else-list-n w ↦ omega (arith, w.if-list-n.false, counts_area_one _ f _ _ _ w.count_area-n.ensures n)
+      | else-list-records w ↦ omega (arith, w.if-list-records.false, c.records.ensures, counts_area_short _ f _ _ n)
     ] in
     record { counts = n; short = λ g. absurd (omega arith); lists = λ g. c.list_area.ensures }

@@ -1,13 +1,7 @@
 -- `enumerate::area_often` meets its contract. The invariant: what is listed by the first run and then by the others is listed. Assumes nothing.
 use native.Mathlib.Omega.{arith}
-use mathlib.Core.Path.{◌≡◌, refl}
-use mathlib.Core.List.{List}
-use Prim.Native.Nat.{◌-◌}
-use lib.IntN.{ℤ}
-use lib.ListN.{length}
-use Rattle.repeated.specs.Says.{AreaListed}
+use mathlib.Core.Path.{refl}
 use Rattle.repeated.specs.Runs.{area_twice}
-use Rattle.seek.specs.Enumerate.{area_of}
 use Rattle.repeated.proofs.enumerate.area_often.Goals as goal
 
 pub loop-n-init : goal.loop-n-init

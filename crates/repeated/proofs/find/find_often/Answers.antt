@@ -1,7 +1,5 @@
 -- `find::find_often` meets its contract. The last run found the tile. Assumes nothing.
 use native.Mathlib.Omega.{arith}
-use Prim.Native.Nat.{◌-◌}
-use Rattle.seek.specs.Find.{Finds}
 use Rattle.repeated.proofs.find.find_often.Goals as goal
 
 pub loop-n-init : goal.loop-n-init

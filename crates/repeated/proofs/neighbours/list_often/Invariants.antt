@@ -1,12 +1,10 @@
 -- `neighbours::list_often` meets its contract. The invariant: what is listed by the first run and then by the others is listed. Assumes nothing.
-use native.Mathlib.Omega.{arith}
-use mathlib.Core.Path.{◌≡◌, refl}
+use mathlib.Core.Path.{◌≡◌}
 use mathlib.Core.List.{List}
 use Prim.Native.Nat.{◌-◌}
 use lib.IntN.{ℤ}
 use lib.ListN.{length}
 use Rattle.repeated.specs.Says.{SideListed}
-use Rattle.repeated.specs.Runs.{side_twice}
 use Rattle.repeated.proofs.neighbours.list_often.Given as goal
 
 abbrev pub invariant-loop-n : goal.invariant-loop-n

@@ -1,13 +1,11 @@
 -- `reports::density_often` meets its contract. The invariant: what is reported by the first run and then by the others is reported. Assumes nothing.
-use native.Mathlib.Omega.{arith}
-use mathlib.Core.Path.{◌≡◌, refl, ◌∙◌}
+use mathlib.Core.Path.{◌≡◌}
 use mathlib.Core.List.{List}
 use Prim.Native.Nat.{◌-◌}
 use lib.Ieee.{Float}
 use lib.ListN.{length}
 use Rattle.seek.specs.Enumerate.{area_of}
 use Rattle.density.specs.Report.{Reports}
-use Rattle.density.specs.Reporting.{report_from}
 use Rattle.repeated.proofs.reports.density_often.Given as goal
 
 abbrev pub invariant-loop-n : goal.invariant-loop-n

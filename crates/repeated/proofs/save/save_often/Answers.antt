@@ -1,10 +1,6 @@
 -- `save::save_often` meets its contract. The invariant: what is saved by the first run and then by the others is saved. Assumes nothing.
 use native.Mathlib.Omega.{arith}
-use mathlib.Core.Path.{◌≡◌, refl}
-use mathlib.Core.List.{List}
-use Prim.Native.Nat.{ℕ, ◌-◌}
-use lib.ListN.{length}
-use Rattle.layout.specs.Order.{Saves}
+use mathlib.Core.Path.{refl}
 use Rattle.repeated.specs.Runs.{saves_twice}
 use Rattle.repeated.proofs.save.save_often.Goals as goal
 

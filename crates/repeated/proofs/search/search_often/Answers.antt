@@ -1,7 +1,5 @@
 -- `search::search_often` meets its contract. The last run saw what there is. Assumes nothing.
 use native.Mathlib.Omega.{arith}
-use Prim.Native.Nat.{◌-◌}
-use Rattle.repeated.specs.Says.{Sees}
 use Rattle.repeated.proofs.search.search_often.Goals as goal
 
 pub loop-n-init : goal.loop-n-init

@@ -1,7 +1,7 @@
 -- `seek::area::search` meets its contract. From the row y up the area is free. Assumes nothing.
 use mathlib.Core.Path.{refl}
 use native.Mathlib.Omega.{arith}
-use Rattle.seek.specs.Search.{nothing, solid, FreeFrom, free_start, free_on, free_ends, first_of_area, row_clear, row_stopped}
+use Rattle.seek.specs.Search.{nothing, solid, free_start, free_on, free_ends, first_of_area, row_clear, row_stopped}
 use Rattle.seek.proofs.area.search.Goals as goal
 
 pub loop-y-init : goal.loop-y-init

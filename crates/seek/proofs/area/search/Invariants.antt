@@ -1,6 +1,5 @@
 -- `seek::area::search` meets its contract. From the row y up the area is free. Assumes nothing.
-use native.Mathlib.Omega.{arith}
-use Rattle.seek.specs.Search.{nothing, solid, FreeFrom, free_start, free_on, free_ends, first_of_area, row_clear, row_stopped}
+use Rattle.seek.specs.Search.{FreeFrom}
 use Rattle.seek.proofs.area.search.Given as goal
 
 abbrev pub invariant-loop-y : goal.invariant-loop-y

@@ -1,10 +1,8 @@
 -- `seek::cell::cross_left` meets its contract. Every tile that the loop meets ends at the left side of a, and tops rise to the row. Assumes nothing.
 use Prim.Native.Nat.{◌-◌}
-use native.Mathlib.Omega.{arith}
-use Rattle.geometry.specs.Find.{AtLeft, left_ends}
+use Rattle.geometry.specs.Find.{AtLeft}
 use Rattle.table.specs.Words.{num, TOP}
-use Rattle.table.specs.Forms.{plane_in, stitches_in}
-use Rattle.seek.specs.Find.{starts_left, goes_up}
+use Rattle.table.specs.Forms.{plane_in}
 use Rattle.seek.proofs.cell.cross_left.Given as goal
 
 abbrev pub invariant-loop-k : goal.invariant-loop-k

@@ -1,7 +1,6 @@
 -- `seek::cell::cross_right` meets its contract. Every tile that the loop meets begins at the right side of a, and bottoms fall to the row. Assumes nothing.
 use native.Mathlib.Omega.{arith}
-use Rattle.geometry.specs.Find.{AtRight, right_ends}
-use Rattle.table.specs.Words.{num, BOTTOM}
+use Rattle.geometry.specs.Find.{right_ends}
 use Rattle.table.specs.Forms.{plane_in, stitches_in}
 use Rattle.seek.specs.Find.{starts_right, goes_down}
 use Rattle.seek.proofs.cell.cross_right.Goals as goal

@@ -1,9 +1,7 @@
 -- `seek::cell::cross_right` meets its contract. Every tile that the loop meets begins at the right side of a, and bottoms fall to the row. Assumes nothing.
-use native.Mathlib.Omega.{arith}
-use Rattle.geometry.specs.Find.{AtRight, right_ends}
+use Rattle.geometry.specs.Find.{AtRight}
 use Rattle.table.specs.Words.{num, BOTTOM}
-use Rattle.table.specs.Forms.{plane_in, stitches_in}
-use Rattle.seek.specs.Find.{starts_right, goes_down}
+use Rattle.table.specs.Forms.{plane_in}
 use Rattle.seek.proofs.cell.cross_right.Given as goal
 
 abbrev pub invariant-loop-k : goal.invariant-loop-k

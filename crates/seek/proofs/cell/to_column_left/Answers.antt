@@ -1,8 +1,6 @@
 -- `seek::cell::to_column_left` meets its contract. Each turn crosses one left side in the row, so left edges fall. Assumes nothing.
 use borrow.Author.Rules.{rules}
 use native.Mathlib.Omega.{arith}
-use Rattle.table.specs.Words.{num, LEFT}
-use Rattle.seek.specs.Find.{Row}
 use Rattle.seek.proofs.cell.to_column_left.Goals as goal
 
 pub loop-k-init : goal.loop-k-init

@@ -1,5 +1,4 @@
 -- `seek::cell::to_column_left` meets its contract. Each turn crosses one left side in the row, so left edges fall. Assumes nothing.
-use native.Mathlib.Omega.{arith}
 use Rattle.table.specs.Words.{num, LEFT}
 use Rattle.seek.specs.Find.{Row}
 use Rattle.seek.proofs.cell.to_column_left.Given as goal

@@ -1,10 +1,6 @@
 -- `seek::cell::to_column_right` meets its contract. Each turn crosses one right side in the row and never passes the column, so right edges rise. Assumes nothing.
-use Prim.Native.Nat.{◌-◌}
 use native.Mathlib.Omega.{arith}
-use Rattle.geometry.specs.Picture.{HIGH}
-use Rattle.table.specs.Words.{num, RIGHT}
 use Rattle.table.specs.Forms.{is_used}
-use Rattle.seek.specs.Find.{From}
 use Rattle.seek.proofs.cell.to_column_right.Goals as goal
 
 pub loop-k-init : goal.loop-k-init

@@ -1,8 +1,7 @@
 -- `seek::cell::to_row_down` meets its contract. Each turn is one step down: k ends over the row, and bottoms fall. Assumes nothing.
 use borrow.Author.Rules.{rules}
 use native.Mathlib.Omega.{arith}
-use Rattle.table.specs.Words.{num, BOTTOM}
-use Rattle.seek.specs.Find.{Under, sinks}
+use Rattle.seek.specs.Find.{sinks}
 use Rattle.seek.proofs.cell.to_row_down.Goals as goal
 
 pub loop-k-init : goal.loop-k-init

@@ -1,7 +1,6 @@
 -- `seek::cell::to_row_down` meets its contract. Each turn is one step down: k ends over the row, and bottoms fall. Assumes nothing.
-use native.Mathlib.Omega.{arith}
 use Rattle.table.specs.Words.{num, BOTTOM}
-use Rattle.seek.specs.Find.{Under, sinks}
+use Rattle.seek.specs.Find.{Under}
 use Rattle.seek.proofs.cell.to_row_down.Given as goal
 
 abbrev pub invariant-loop-k : goal.invariant-loop-k

@@ -1,14 +1,11 @@
 -- `seek::directed::subtree` meets its contract. The walk has met some tiles of p's right side, and the trees of those that hang under p are written.
 -- Assumes nothing.
-use Rattle.std.proofs.Common.{◌≡◌, ◌∙◌, ap, arith, length, ◌<◌}
+use Rattle.std.proofs.Common.{arith}
 use Rattle.seek.specs.Neighbours.{side_of}
-use Rattle.seek.specs.Meaning.{Hangs}
 use Rattle.seek.specs.Hanging.{hangs_beside}
 use Rattle.seek.specs.Once.{tree_short}
-use Rattle.seek.specs.Writing.{over_length}
-use Rattle.seek.specs.Enumerate.{edges}
 use Rattle.seek.specs.RightSide.{walking_goes, walking_hangs, walking_last, walking_on, walking_falls}
-use Rattle.seek.specs.Subtree.{Going, going_starts, going_ends, going_short, going_pass, going_more, writes_alone}
+use Rattle.seek.specs.Subtree.{going_starts, going_ends, going_short, going_pass, going_more, writes_alone}
 use Rattle.seek.proofs.directed.+subtree.Goals as goal
 use Rattle.seek.proofs.directed.+subtree.Goals.{then-low-top, else-low-top}
 

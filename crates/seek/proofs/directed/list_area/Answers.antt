@@ -4,7 +4,7 @@ use native.Mathlib.Omega.{arith}
 use Rattle.seek.specs.Meaning.{Root}
 use Rattle.seek.specs.Once.{tree_short}
 use Rattle.seek.specs.Enumerate.{area_of}
-use Rattle.seek.specs.Roots.{Descending, descending_starts, descending_ends, descending_short, descending_on, next_root}
+use Rattle.seek.specs.Roots.{descending_starts, descending_ends, descending_short, descending_on, next_root}
 use Rattle.seek.proofs.directed.list_area.Goals as goal
 
 root : (f : goal.After-find-k) → let a = f.args in Root a.t.now (area_of a.area) f.find-k.result

@@ -2,10 +2,6 @@
 use mathlib.Core.Path.{refl}
 use native.Mathlib.Omega.{arith}
 use Rattle.seek.specs.RightSide.{stops, steps, goes_below}
-use Rattle.seek.proofs.directed.next.Reads as reads
-use Rattle.seek.proofs.directed.next.Lts as lts
-use Rattle.seek.proofs.side.Walk.step.Reads as step-reads
-use Rattle.table.proofs.word.Reads as word-reads
 use Rattle.seek.proofs.directed.next.Goals as goal
 
 pub word-requires : goal.word-requires

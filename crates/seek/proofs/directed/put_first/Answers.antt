@@ -7,9 +7,6 @@ use lib.IntN.{pos}
 use lib.ListN.{set}
 use mir.Facts.{to_z-of_z}
 use Rattle.seek.specs.Writing.{words, over_first, over_full}
-use Rattle.seek.proofs.directed.put_first.Reads as reads
-use Rattle.seek.proofs.directed.put_first.Lts as lts
-use Rattle.ruler.proofs.count.Reads as count-reads
 use mir.Syntax.{w32}
 use Rattle.seek.proofs.directed.put_first.Goals as goal
 

@@ -1,8 +1,6 @@
 -- `seek::first::first_used` meets its contract. No used record is passed, and there is one, so the loop ends inside the table. Assumes nothing.
-use Prim.Native.Nat.{◌<◌, ◌-◌}
 use native.Mathlib.Omega.{arith}
-use Rattle.table.specs.Words.{records_of}
-use Rattle.seek.specs.Start.{NonePassed, not_past, pass_free}
+use Rattle.seek.specs.Start.{not_past, pass_free}
 use Rattle.seek.proofs.first.first_used.Goals as goal
 
 pub loop-i-init : goal.loop-i-init

@@ -1,8 +1,7 @@
 -- `seek::first::first_used` meets its contract. No used record is passed, and there is one, so the loop ends inside the table. Assumes nothing.
 use Prim.Native.Nat.{◌<◌, ◌-◌}
-use native.Mathlib.Omega.{arith}
 use Rattle.table.specs.Words.{records_of}
-use Rattle.seek.specs.Start.{NonePassed, not_past, pass_free}
+use Rattle.seek.specs.Start.{NonePassed}
 use Rattle.seek.proofs.first.first_used.Given as goal
 
 abbrev pub invariant-loop-i : goal.invariant-loop-i

@@ -1,9 +1,8 @@
 -- `seek::neighbours::count_side` meets its contract. After n turns the walk stands at place n of the list. Assumes nothing.
 use Prim.Native.Nat.{◌+◌, ◌-◌}
-use native.Mathlib.Omega.{arith}
 use Rattle.geometry.specs.Picture.{HIGH}
 use Rattle.seek.specs.Neighbours.{side_of}
-use Rattle.seek.specs.Listing.{Counting, counting_starts, counting_goes, counting_short, counting_on, counting_ends}
+use Rattle.seek.specs.Listing.{Counting}
 use Rattle.seek.proofs.neighbours.count_side.Given as goal
 
 abbrev pub invariant-loop-w : goal.invariant-loop-w

@@ -1,11 +1,8 @@
 -- `seek::neighbours::list_side` meets its contract. After n turns the walk stands at place n of the list, and the places before are written. Assumes nothing.
-use mathlib.Core.Path.{◌∙◌}
 use Prim.Native.Nat.{◌+◌, ◌-◌}
-use native.Mathlib.Omega.{arith}
-use mir.Facts.{to_z-of_z}
 use Rattle.geometry.specs.Picture.{HIGH}
 use Rattle.seek.specs.Neighbours.{side_of}
-use Rattle.seek.specs.Listing.{Listing, listing_starts, counting_goes, counting_short, counting_below, listing_room, listing_on, listing_ends}
+use Rattle.seek.specs.Listing.{Listing}
 use Rattle.seek.proofs.neighbours.list_side.Given as goal
 
 abbrev pub invariant-loop-w : goal.invariant-loop-w

@@ -1,8 +1,7 @@
 -- `seek::queue::gather` meets its contract. What hangs under the first i entries stands in the list. Assumes nothing.
 use mathlib.Core.Path.{◌≡◌, refl, ◌∙◌, subst}
-use Prim.Native.Nat.{◌-◌, ◌<◌}
+use Prim.Native.Nat.{◌<◌}
 use native.Mathlib.Omega.{arith}
-use lib.ListN.{length}
 use Rattle.table.specs.Words.{records_of}
 use Rattle.seek.specs.Enumerate.{area_of}
 use Rattle.seek.specs.Queue.{Queue, queue_short, queue_gathers}

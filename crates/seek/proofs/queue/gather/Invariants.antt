@@ -1,11 +1,10 @@
 -- `seek::queue::gather` meets its contract. What hangs under the first i entries stands in the list. Assumes nothing.
-use mathlib.Core.Path.{◌≡◌, refl, ◌∙◌, subst}
-use Prim.Native.Nat.{◌-◌, ◌<◌}
-use native.Mathlib.Omega.{arith}
+use mathlib.Core.Path.{◌≡◌}
+use Prim.Native.Nat.{◌-◌}
 use lib.ListN.{length}
 use Rattle.table.specs.Words.{records_of}
 use Rattle.seek.specs.Enumerate.{area_of}
-use Rattle.seek.specs.Queue.{Queue, queue_short, queue_gathers}
+use Rattle.seek.specs.Queue.{Queue}
 use Rattle.seek.proofs.queue.gather.Given as goal
 
 abbrev pub invariant-loop-i : goal.invariant-loop-i

@@ -1,6 +1,6 @@
 -- `seek::queue::put_hanging` meets its contract. The tiles of the entry's right side that the walk has met and that hang under the entry are written.
 -- Assumes nothing.
-use mathlib.Core.Path.{◌≡◌, sym, ap, subst, subst₂}
+use mathlib.Core.Path.{sym, ap, subst, subst₂}
 use Prim.Native.Nat.{ℕ, ◌≤◌, ◌<◌}
 use native.Mathlib.Omega.{arith}
 use Rattle.geometry.specs.Cases.{yes, no}
@@ -11,7 +11,7 @@ use Rattle.seek.specs.Meaning.{Area, Meets}
 use Rattle.seek.specs.Neighbours.{side_of}
 use Rattle.seek.specs.Walk.{Begins, Goes}
 use Rattle.seek.specs.Enumerate.{edges}
-use Rattle.seek.specs.RightSide.{Floor, left_of_walk, walking_goes, walking_at, walking_hangs, walking_hangs_not, walking_on, walking_falls}
+use Rattle.seek.specs.RightSide.{Floor, walking_goes, walking_at, walking_hangs, walking_hangs_not, walking_on, walking_falls}
 use Rattle.seek.specs.Queue.{named, Queueing, queue_meets, queue_short, queue_alone, queueing_starts, queueing_short, queueing_pass, queueing_more, queueing_ends}
 use Rattle.seek.proofs.queue.put_hanging.Goals as goal
 use Rattle.seek.proofs.queue.put_hanging.Goals.{then-is_within, else-is_within}

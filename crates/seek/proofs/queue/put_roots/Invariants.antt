@@ -1,10 +1,6 @@
 -- `seek::queue::put_roots` meets its contract. The roots that hold a cell of the area's left edge in the row y or a higher one are written. Assumes nothing.
-use mathlib.Core.Path.{sym, subst}
-use Prim.Native.Nat.{◌+◌}
-use native.Mathlib.Omega.{arith}
-use Rattle.table.specs.Words.{BOTTOM, num}
 use Rattle.seek.specs.Enumerate.{area_of}
-use Rattle.seek.specs.Queue.{Rooting, rooting_starts, rooting_short, rooting_on, rooting_ends}
+use Rattle.seek.specs.Queue.{Rooting}
 use Rattle.seek.proofs.queue.put_roots.Given as goal
 
 abbrev pub invariant-loop-y : goal.invariant-loop-y

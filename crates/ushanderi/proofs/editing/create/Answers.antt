@@ -1,14 +1,12 @@
 -- `ushanderi::editing::create` meets its promise: where the checks refuse, what they say; else what `create_one` gives. Assumes nothing.
 use mathlib.Core.Path.{refl, ap, ◌∙◌, subst}
-use denote.Enum.Declared.{tag_of}
 use Rattle.ruler.specs.Ruler.{ruler_bits}
 use Rattle.ushanderi.specs.Answers.{without_cell}
 use Rattle.ushanderi.specs.Promises.{CreateRefuses, CreateSays}
 use Rattle.ushanderi.specs.Entry.{admits_fit, admits_few}
-use Rattle.ushanderi.specs.Reading.{fit_forms, admits_unfit, not_third}
+use Rattle.ushanderi.specs.Reading.{fit_forms, admits_unfit}
 use Rattle.ushanderi.specs.ReadingAreas.{area_bits}
 use Rattle.ushanderi.specs.Editing.{CreateEnds, create_same, done_low}
-use Rattle.ushanderi.specs.contracts.entry.Entry.{the_type}
 use Rattle.ushanderi.proofs.editing.create.Goals as goal
 
 pub entry_answer-requires : goal.entry_answer-requires

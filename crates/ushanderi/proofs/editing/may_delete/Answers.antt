@@ -1,11 +1,9 @@
 -- `ushanderi::editing::may_delete` meets its contract: a find's refusal goes out unchanged; SPACE where the tile is no solid. Assumes nothing.
-use mathlib.Core.Path.{sym, ap, ◌∙◌, subst}
+use mathlib.Core.Path.{sym, ◌∙◌, subst}
 use native.Mathlib.Omega.{arith}
-use denote.Enum.Declared.{tag_of}
 use Rattle.ushanderi.specs.Promises.{DeleteRefuses}
-use Rattle.ushanderi.specs.Reading.{find_at, find_low, find_bits, not_first}
+use Rattle.ushanderi.specs.Reading.{find_at, find_low, find_bits}
 use Rattle.ushanderi.specs.Editing.{delete_allows, is_space, refused_delete}
-use Rattle.ushanderi.specs.contracts.reading.Found.{the_type}
 use Rattle.ushanderi.proofs.editing.may_delete.Goals as goal
 
 pub found_answer-requires : goal.found_answer-requires

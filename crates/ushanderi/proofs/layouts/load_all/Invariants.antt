@@ -1,13 +1,6 @@
 -- `ushanderi::layouts::load_all` meets its contract. The loop's invariant: the creates of the records before n are done. Assumes nothing.
-use mathlib.Core.Path.{sym, ap, ◌∙◌, subst}
 use Prim.Native.Nat.{◌-◌, ◌≤◌}
-use native.Mathlib.Omega.{arith}
-use lib.ListN.{length}
-use Rattle.table.specs.Fresh.{fresh_table}
-use Rattle.ushanderi.specs.Answers.{without_cell}
-use Rattle.ushanderi.specs.Promises.{LoadSays}
-use Rattle.ushanderi.specs.Editing.{CreateEnds}
-use Rattle.ushanderi.specs.Layouts.{Loading, fresh_long, loading_none, loading_more, loading_low, load_done, load_stopped}
+use Rattle.ushanderi.specs.Layouts.{Loading}
 use Rattle.ushanderi.proofs.layouts.load_all.Given as goal
 
 abbrev pub invariant-loop-n : goal.invariant-loop-n

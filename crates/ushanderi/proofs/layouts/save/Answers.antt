@@ -1,10 +1,8 @@
 -- `ushanderi::layouts::save` meets its promise: where the checks refuse, what they say; else what `save_in` gives. Assumes nothing.
-use mathlib.Core.Path.{refl, sym, ap, subst}
-use denote.Enum.Declared.{tag_of}
+use mathlib.Core.Path.{refl, sym, subst}
 use Rattle.ushanderi.specs.Promises.{Unfit, SaveSays}
 use Rattle.ushanderi.specs.Entry.{admits_fit, admits_few}
-use Rattle.ushanderi.specs.Reading.{admits_unfit, not_third}
-use Rattle.ushanderi.specs.contracts.entry.Entry.{the_type}
+use Rattle.ushanderi.specs.Reading.{admits_unfit}
 use Rattle.ushanderi.proofs.layouts.save.Goals as goal
 
 pub entry_answer-requires : goal.entry_answer-requires

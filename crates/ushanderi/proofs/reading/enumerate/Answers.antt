@@ -1,13 +1,11 @@
 -- `ushanderi::reading::enumerate` meets its promise: where the checks refuse, what they say; else what `enumerate_in` gives. Assumes nothing.
-use mathlib.Core.Path.{refl, sym, ap, ◌∙◌, subst}
-use denote.Enum.Declared.{tag_of}
+use mathlib.Core.Path.{refl, sym, ◌∙◌, subst}
 use Rattle.geometry.specs.Cases.{yes, no}
 use Rattle.seek.specs.Meaning.{RectRight}
 use Rattle.ushanderi.specs.Promises.{Unfit, EnumerateSays}
 use Rattle.ushanderi.specs.Entry.{admits_fit, admits_few}
-use Rattle.ushanderi.specs.Reading.{admits_unfit, not_third}
+use Rattle.ushanderi.specs.Reading.{admits_unfit}
 use Rattle.ushanderi.specs.ReadingAreas.{area_bits, enumerate_same}
-use Rattle.ushanderi.specs.contracts.entry.Entry.{the_type}
 use Rattle.ushanderi.proofs.reading.enumerate.Goals as goal
 
 pub entry_answer-requires : goal.entry_answer-requires

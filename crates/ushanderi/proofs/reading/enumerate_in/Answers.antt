@@ -1,5 +1,4 @@
 -- `ushanderi::reading::enumerate_in` meets its contract: what is counted is what is listed, and it is at most the records. Assumes nothing.
-use mathlib.Core.Logic.{⊎_elim}
 use Prim.Native.Nat.{◌≤◌}
 use native.Mathlib.Omega.{arith}
 use lib.ListN.{length}

@@ -1,13 +1,11 @@
 -- `ushanderi::reading::neighbours` meets its promise: a find's refusal goes out unchanged; else what `list_side` gives. Assumes nothing.
-use mathlib.Core.Path.{refl, sym, ap, ◌∙◌, subst}
+use mathlib.Core.Path.{refl, sym, ◌∙◌, subst}
 use native.Mathlib.Omega.{arith}
-use denote.Enum.Declared.{tag_of}
 use Rattle.ruler.specs.Ruler.{ruler_bits}
 use Rattle.geometry.specs.Cases.{yes, no}
 use Rattle.ushanderi.specs.Promises.{NeighboursSays}
-use Rattle.ushanderi.specs.Reading.{fit_forms, find_at, find_low, find_bits, not_first}
+use Rattle.ushanderi.specs.Reading.{fit_forms, find_at, find_low, find_bits}
 use Rattle.ushanderi.specs.ReadingSides.{finds_in_plane, refused_neighbours, side_is, side_not, side_neighbours}
-use Rattle.ushanderi.specs.contracts.reading.Found.{the_type}
 use Rattle.ushanderi.proofs.reading.neighbours.Goals as goal
 
 pub found_answer-requires : goal.found_answer-requires

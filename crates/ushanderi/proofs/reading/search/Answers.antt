@@ -1,14 +1,12 @@
 -- `ushanderi::reading::search` meets its promise: where the checks refuse, what they say; else what `search_in` gives. Assumes nothing.
 use mathlib.Core.Path.{sym, ap, ◌∙◌, subst}
-use denote.Enum.Declared.{tag_of}
 use Rattle.geometry.specs.Cases.{yes, no}
 use Rattle.seek.specs.Meaning.{RectRight}
 use Rattle.ushanderi.specs.Answers.{without_cell}
 use Rattle.ushanderi.specs.Promises.{SearchSays}
 use Rattle.ushanderi.specs.Entry.{admits_fit, admits_few}
-use Rattle.ushanderi.specs.Reading.{admits_unfit, not_third}
+use Rattle.ushanderi.specs.Reading.{admits_unfit}
 use Rattle.ushanderi.specs.ReadingAreas.{area_bits, search_same}
-use Rattle.ushanderi.specs.contracts.entry.Entry.{the_type}
 use Rattle.ushanderi.proofs.reading.search.Goals as goal
 
 pub entry_answer-requires : goal.entry_answer-requires

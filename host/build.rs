@@ -26,7 +26,7 @@ fn link(folder: &Path, name: &str) {
     println!("cargo:rerun-if-changed={}", archive.display());
     assert!(
         archive.exists(),
-        "{} is not there: run `rt staticlib {name}` in the repository's root first, or set {FOLDER_VARIABLE}",
+        "{} is not there: run `tools/archives` in the repository's root first, or set {FOLDER_VARIABLE}",
         archive.display()
     );
     println!("cargo:rustc-link-lib=static={name}");

@@ -1,4 +1,4 @@
-/* The tile server's calls by C names. Link target/staticlib/libushanderi.a, which `rt staticlib ushanderi` writes.
+/* The tile server's calls by C names. Link target/staticlib/libushanderi.a, which `tools/archives` writes.
  *
  * The plane is every cell (x, y) with -USH_EDGE <= x, y < USH_EDGE. A tile holds the cells with left <= x < right and
  * bottom <= y < top: its lower and left edges belong to it, the upper and right ones do not. A table keeps the solids

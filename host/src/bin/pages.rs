@@ -11,10 +11,14 @@ use std::process::ExitCode;
 const ROOT: &str = "..";
 const ARCHITECTURE: &str = "../docs/ARCHITECTURE.md";
 const SECTION: &str = "## What a reader must believe";
-/// Where the public contracts stand, the program that uses them, and where the statements that follow from them.
-const SERVER: &str = "ushanderi";
+/// Where the public contracts stand, those of the C names too, the program that uses them, and where the statements that
+/// follow from them.
+const SERVERS: [&str; 2] = ["ushanderi", "ushanderi_c"];
 const PROGRAM: &str = "lister";
 const CLAIMS: &str = "claims";
+
+/// The folders whose files are read: definitions, and theorems that rest on them.
+const SPECS: [&str; 2] = ["specs", "proofs"];
 
 /// A crate's name, and that of a file of its specs.
 type Page = (String, String);
@@ -62,6 +66,7 @@ fn main() -> ExitCode {
 }
 
 /// The files that the architecture names in its section: `crate/specs/File.antt`, and after it `Other.antt` of the same.
+/// A file of `proofs/` that has the name of one in `specs/` is of the same page.
 fn listed_pages() -> BTreeSet<Page> {
     let text = read(Path::new(ARCHITECTURE));
     let section = text.split(SECTION).nth(1).expect("the section on what to believe");
@@ -69,7 +74,7 @@ fn listed_pages() -> BTreeSet<Page> {
     let mut krate = String::new();
     let mut pages = BTreeSet::new();
     for path in list.split('`').skip(1).step_by(2).filter_map(|quoted| quoted.strip_suffix(".antt")) {
-        let file = match path.split_once("/specs/") {
+        let file = match path.split_once("/specs/").or_else(|| path.split_once("/proofs/")) {
             Some((of, file)) => {
                 krate = of.to_string();
                 file
@@ -84,7 +89,8 @@ fn listed_pages() -> BTreeSet<Page> {
 /// What the contracts of the public calls and of the functions that the program calls name, and every statement on the
 /// claims' pages.
 fn roots(pages: &BTreeSet<Page>, specs: &HashMap<Page, Specs>) -> Vec<(Page, String, String)> {
-    let mut roots = contracts(SERVER, |head| head.starts_with("pub fn ") || head.starts_with("pub extern "));
+    let public = |head: &str| head.starts_with("pub fn ") || head.starts_with("pub extern ");
+    let mut roots: Vec<_> = SERVERS.iter().flat_map(|server| contracts(server, public)).collect();
     let program = read(&Path::new(ROOT).join("crates").join(PROGRAM).join("src/main.rt"));
     roots.extend(contracts(PROGRAM, |head| program.contains(&format!("::{}(", function_of(head)))));
     for page in pages.iter().filter(|(krate, _)| krate == CLAIMS) {
@@ -135,12 +141,16 @@ fn spoken_of(specs: &HashMap<Page, Specs>, page: &Page, text: &str) -> Vec<(Page
 }
 
 fn all_specs() -> HashMap<Page, Specs> {
-    let mut all = HashMap::new();
+    let mut all: HashMap<Page, Specs> = HashMap::new();
     for krate in read_dir(Path::new(ROOT).join("crates")).expect("the crates").flatten() {
         let name = krate.file_name().to_string_lossy().into_owned();
-        for file in files(&krate.path().join("specs"), "antt") {
+        for file in SPECS.iter().flat_map(|folder| files(&krate.path().join(folder), "antt")) {
             let stem = file.file_stem().expect("a file's name").to_string_lossy().into_owned();
-            all.insert((name.clone(), stem), read_specs(&read(&file)));
+            let page: &mut Specs = all.entry((name.clone(), stem)).or_default();
+            let more = read_specs(&read(&file));
+            page.named.extend(more.named);
+            page.whole.extend(more.whole);
+            page.defined.extend(more.defined);
         }
     }
     all
@@ -214,10 +224,12 @@ fn imports(text: &str, before: &str, after: &str) -> Imports {
     (named, whole)
 }
 
-/// `Rattle·table.specs.Words`, and `Rattle·table·specs.specs.Words` in the crate itself.
+/// `Rattle.table.specs.Words`, and `Rattle.table.proofs.Forms` of the same crate's theorems. What the kit's libraries
+/// define is on none of the crates' pages.
 fn page_of(path: &str) -> Option<Page> {
-    let (krate, file) = path.strip_prefix("Rattle·")?.split_once(".specs.")?;
-    Some((krate.trim_end_matches("·specs").to_string(), file.to_string()))
+    let (krate, place) = path.strip_prefix("Rattle.")?.split_once('.')?;
+    let (folder, file) = place.split_once('.')?;
+    SPECS.contains(&folder).then(|| (krate.to_string(), file.to_string()))
 }
 
 /// The words of a text, as the specs' language cuts them.

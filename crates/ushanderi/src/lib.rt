@@ -4,6 +4,7 @@
 pub mod answer;
 pub mod editing;
 mod entry;
+pub mod host;
 pub mod layouts;
 pub mod plane;
 pub mod reading;

@@ -63,14 +63,6 @@ pub(crate) fn found_answer(f: Found) -> Answer
     }
 }
 
-// What find answers, as a number and a value.
-pub fn find_answered(t: &[i32], x: i32, y: i32, hint: i32) -> Answer
-    ensures { FindSays t.now (ruler x) (ruler y) result }
-{
-    let f = find(t, x, y, hint);
-    found_answer(f)
-}
-
 // Whether the number of a word is that of a side.
 fn is_side(side: u64) -> bool
     ensures { T result ↔ SideNumber side }

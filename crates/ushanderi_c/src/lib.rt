@@ -1,4 +1,4 @@
-// The same calls by C names: each does what the call of its name does, and its contract is that call's promise.
+// The calls of the server for C: each export is the function of its name in `ushanderi::host`, and its contract is that function's.
 #![tactic(auto)]
 
 ghost use Rattle.ruler.specs.Ruler.{length_of, ruler};
@@ -8,21 +8,21 @@ ghost use Rattle.ushanderi.specs.Answers.{ruler_area};
 
 use table::Part;
 use ushanderi::answer::{Answer, MetAnswer};
+use ushanderi::host;
 use ushanderi::reports::DensityAnswer;
-use ushanderi::{editing, layouts, plane, reading, reports};
 
 #[unsafe(no_mangle)]
 pub extern "C" fn ush_fresh(t: &mut [i32]) -> Answer
     ensures { FreshSays t.old t.new result }
 {
-    plane::fresh(t)
+    host::ush_fresh(t)
 }
 
 #[unsafe(no_mangle)]
 pub extern "C" fn ush_check(t: &[i32]) -> Answer
     ensures { CheckSays t.now result }
 {
-    plane::check(t)
+    host::ush_check(t)
 }
 
 // A slice cannot be handed to C, so this gives the place of the part that `view` returns.
@@ -30,28 +30,28 @@ pub extern "C" fn ush_check(t: &[i32]) -> Answer
 pub extern "C" fn ush_view(t: &[i32], index: i32) -> Part
     ensures { Places t.now index result.at result.len }
 {
-    table::place(t, index)
+    host::ush_view(t, index)
 }
 
 #[unsafe(no_mangle)]
 pub extern "C" fn ush_find(t: &[i32], x: i32, y: i32, hint: i32) -> Answer
     ensures { FindSays t.now (ruler x) (ruler y) result }
 {
-    reading::find_answered(t, x, y, hint)
+    host::ush_find(t, x, y, hint)
 }
 
 #[unsafe(no_mangle)]
 pub extern "C" fn ush_neighbours(t: &[i32], x: i32, y: i32, side: i32, out: &mut [i32]) -> Answer
     ensures { NeighboursSays t.now (ruler x) (ruler y) side out.old out.new result }
 {
-    reading::neighbours(t, x, y, side, out)
+    host::ush_neighbours(t, x, y, side, out)
 }
 
 #[unsafe(no_mangle)]
 pub extern "C" fn ush_search(t: &[i32], left: i32, bottom: i32, right: i32, top: i32) -> MetAnswer
     ensures { SearchSays t.now (ruler_area left bottom right top) result }
 {
-    reading::search(t, left, bottom, right, top)
+    host::ush_search(t, left, bottom, right, top)
 }
 
 #[unsafe(no_mangle)]
@@ -65,7 +65,7 @@ pub extern "C" fn ush_enumerate(
 ) -> Answer
     ensures { EnumerateSays t.now (ruler_area left bottom right top) out.old out.new result }
 {
-    reading::enumerate(t, left, bottom, right, top, out)
+    host::ush_enumerate(t, left, bottom, right, top, out)
 }
 
 #[unsafe(no_mangle)]
@@ -81,7 +81,7 @@ pub extern "C" fn ush_density(
 ) -> DensityAnswer
     ensures { DensitySays t.now (ruler_area left bottom right top) (length_of width) (length_of height) out.old out.new result }
 {
-    reports::density(t, left, bottom, right, top, width, height, out)
+    host::ush_density(t, left, bottom, right, top, width, height, out)
 }
 
 #[unsafe(no_mangle)]
@@ -95,26 +95,26 @@ pub extern "C" fn ush_create(
 ) -> MetAnswer
     ensures { CreateSays t.old (ruler_area left bottom right top) (ruler label) t.new result }
 {
-    editing::create(t, left, bottom, right, top, label)
+    host::ush_create(t, left, bottom, right, top, label)
 }
 
 #[unsafe(no_mangle)]
 pub extern "C" fn ush_delete(t: &mut [i32], x: i32, y: i32) -> Answer
     ensures { DeleteSays t.old (ruler x) (ruler y) t.new result }
 {
-    editing::delete(t, x, y)
+    host::ush_delete(t, x, y)
 }
 
 #[unsafe(no_mangle)]
 pub extern "C" fn ush_save(t: &[i32], out: &mut [u8]) -> Answer
     ensures { SaveSays t.now out.old out.new result }
 {
-    layouts::save(t, out)
+    host::ush_save(t, out)
 }
 
 #[unsafe(no_mangle)]
 pub extern "C" fn ush_load(t: &mut [i32], bytes: &[u8]) -> MetAnswer
     ensures { LoadSays t.old bytes.now t.new result }
 {
-    layouts::load(t, bytes)
+    host::ush_load(t, bytes)
 }

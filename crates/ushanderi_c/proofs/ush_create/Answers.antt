@@ -7,4 +7,4 @@ use Rattle.ushanderi_c.proofs.ush_create.Goals as goal
 pub returns : goal.returns
 returns c =
     let e = area_bits _ _ _ _ c.ranges.left c.ranges.bottom c.ranges.right c.ranges.top in
-    create_same e (ruler_bits c.args.label c.ranges.label) c.create.ensures
+    create_same e (ruler_bits c.args.label c.ranges.label) c.ush_create.ensures

@@ -4,4 +4,4 @@ use Rattle.ushanderi_c.proofs.ush_delete.Goals as goal
 
 pub returns : goal.returns
 returns c =
-    delete_bits _ _ _ _ _ c.ranges.x c.ranges.y c.delete.ensures
+    delete_bits _ _ _ _ _ c.ranges.x c.ranges.y c.ush_delete.ensures

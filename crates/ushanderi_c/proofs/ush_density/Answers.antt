@@ -7,4 +7,4 @@ use Rattle.ushanderi_c.proofs.ush_density.Goals as goal
 pub returns : goal.returns
 returns c =
     density_same (area_bits _ _ _ _ c.ranges.left c.ranges.bottom c.ranges.right c.ranges.top) (length_bits c.args.width c.ranges.width)
-    (length_bits c.args.height c.ranges.height) c.density.ensures
+    (length_bits c.args.height c.ranges.height) c.ush_density.ensures

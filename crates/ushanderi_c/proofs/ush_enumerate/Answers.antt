@@ -4,4 +4,4 @@ use Rattle.ushanderi_c.proofs.ush_enumerate.Goals as goal
 
 pub returns : goal.returns
 returns c =
-    enumerate_same (area_bits _ _ _ _ c.ranges.left c.ranges.bottom c.ranges.right c.ranges.top) c.enumerate.ensures
+    enumerate_same (area_bits _ _ _ _ c.ranges.left c.ranges.bottom c.ranges.right c.ranges.top) c.ush_enumerate.ensures

@@ -3,4 +3,4 @@ use Rattle.ushanderi.specs.Reading.{find_bits}
 use Rattle.ushanderi_c.proofs.ush_find.Goals as goal
 
 pub returns : goal.returns
-returns c = find_bits _ _ _ _ c.ranges.x c.ranges.y c.find_answered.ensures
+returns c = find_bits _ _ _ _ c.ranges.x c.ranges.y c.ush_find.ensures

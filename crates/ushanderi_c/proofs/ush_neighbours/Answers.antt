@@ -4,4 +4,4 @@ use Rattle.ushanderi_c.proofs.ush_neighbours.Goals as goal
 
 pub returns : goal.returns
 returns c =
-    neighbours_bits _ _ _ c.ranges.x c.ranges.y c.ranges.side c.neighbours.ensures
+    neighbours_bits _ _ _ c.ranges.x c.ranges.y c.ranges.side c.ush_neighbours.ensures

@@ -5,4 +5,4 @@ use Rattle.ushanderi_c.proofs.ush_view.Goals as goal
 
 pub returns : goal.returns
 returns c =
-    subst (λ i. Places c.args.t.now i c.place.result.at c.place.result.len) (to_z-of_z c.ranges.index) c.place.ensures
+    subst (λ i. Places c.args.t.now i c.ush_view.result.at c.ush_view.result.len) (to_z-of_z c.ranges.index) c.ush_view.ensures

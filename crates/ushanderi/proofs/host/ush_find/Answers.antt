@@ -1,8 +1,8 @@
--- `ushanderi::reading::find_answered` meets the promise of find. Assumes nothing.
+-- `ushanderi::host::ush_find` meets the promise of find. Assumes nothing.
 use mathlib.Core.Path.{sym, subst}
 use Rattle.ushanderi.specs.Promises.{FindSays}
 use Rattle.ushanderi.specs.Reading.{find_bits, find_low}
-use Rattle.ushanderi.proofs.reading.find_answered.Goals as goal
+use Rattle.ushanderi.proofs.host.ush_find.Goals as goal
 
 pub found_answer-requires : goal.found_answer-requires
 found_answer-requires c = find_low _ _ _ _ c.find-f.ensures

@@ -118,7 +118,7 @@ fn contracts(krate: &str, such: impl Fn(&str) -> bool) -> Vec<(Page, String, Str
 /// The name of the function that a text begins with.
 fn function_of(head: &str) -> &str {
     let name = head.split_once("fn ").map_or("", |(_, name)| name);
-    name.split('(').next().unwrap_or_default()
+    name.split(['(', '<']).next().unwrap_or_default()
 }
 
 /// The definitions that a text on a page names.

@@ -3,6 +3,7 @@ use Rattle.std.specs.Prelude.{◌≡◌, refl, List, [], ◌∷◌, ◌++◌, �
 use Rattle.std.proofs.Common.{sym, ap, ◌∙◌, append_assoc, arith, length-append, length-take, length-drop, take-append-drop, length-take-le, drop-drop, take_at}
 use Rattle.std.proofs.Math.Seq.{drop-append-add, take-length, paste, paste-suc}
 use Rattle.std.proofs.lemmas.List.{set_split}
+use borrow.Rule.Slice.PartMut.{put_mid}
 
 -- `old` with `new` from position `at` on
 unfoldable pub patch : List ℕ → ℕ → List ℕ → List ℕ
@@ -21,6 +22,12 @@ patch_start old new = let e : 0 + length new ≡ length new = omega arith in ap 
 pub patch_none : (old : List ℕ) (at : ℕ) → patch old at [] ≡ old
 unfolding patch
 patch_none old at = let e : at + 0 ≡ at = omega arith in ap (λ k. take at old ++ drop k old) e ∙ take-append-drop at old
+
+-- what a write to a part of the list leaves
+pub patch_mid : (old : List ℕ) (at k : ℕ) (new : List ℕ) → k ≡ length new → put_mid at k old new ≡ patch old at new
+unfolding patch
+patch_mid old at k new e =
+    ap (λ l. take at old ++ (new ++ l)) (drop-drop k at old) ∙ ap (λ n. take at old ++ (new ++ drop (at + n) old)) e
 
 -- one entry
 pub patch_one : (old : List ℕ) (at x : ℕ) → at < length old → set old at x ≡ patch old at (x ∷ [])
@@ -45,22 +52,6 @@ patch_then old at a b n e h =
     ∙ ap (λ l. (take at old ++ a) ++ (b ++ l)) (d ∙ drop-drop (length b) (at + length a) old ∙ ap (λ j. drop j old) k)
     ∙ append_assoc (take at old) a (b ++ drop (at + length (a ++ b)) old)
     ∙ ap (λ l. take at old ++ l) (sym (append_assoc a b (drop (at + length (a ++ b)) old)))
-
--- one entry more
-pub patch_more : (old : List ℕ) (at : ℕ) (a : List ℕ) (n x : ℕ) → n ≡ at + length a → n < length old
-    → set (patch old at a) n x ≡ patch old at (a ++ (x ∷ []))
-patch_more old at a n x e h =
-    let l : length (patch old at a) ≡ length old = patch_length old at a (omega arith) in
-    let k : length (a ++ (x ∷ [])) ≡ length a + 1 = length-append a (x ∷ []) in
-    patch_one (patch old at a) n x (omega arith) ∙ patch_then old at a (x ∷ []) n e (omega arith)
-
-pub patch_four : (old : List ℕ) (at a b c d : ℕ) → at + 4 ≤ length old
-    → set (set (set (set old at a) (at + 1) b) (at + 2) c) (at + 3) d ≡ patch old at (a ∷ b ∷ c ∷ d ∷ [])
-patch_four old at a b c d h =
-    ap (λ l. set (set (set l (at + 1) b) (at + 2) c) (at + 3) d) (patch_one old at a (omega arith))
-    ∙ ap (λ l. set (set l (at + 2) c) (at + 3) d) (patch_more old at (a ∷ []) (at + 1) b refl (omega arith))
-    ∙ ap (λ l. set l (at + 3) d) (patch_more old at (a ∷ b ∷ []) (at + 2) c refl (omega arith))
-    ∙ patch_more old at (a ∷ b ∷ c ∷ []) (at + 3) d refl (omega arith)
 
 -- what a function that writes `text` at `at` and answers the next position leaves
 pub record Puts (old new : List ℕ) (at : ℕ) (text : List ℕ) (r : ℕ) : Type 0 where

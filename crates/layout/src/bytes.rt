@@ -8,10 +8,8 @@ use table::numbers::{WORDS, ZERO};
 // The bytes of a saved record.
 pub const SAVED: usize = 20;
 
-// How many numbers a byte has.
-const BYTE: u64 = 256;
-
-// A saved record's five words as numbers on the ruler.
+// A saved record's five words as numbers on the ruler. That they fit is no ghost field: `saved_at` of specs/Bytes.antt,
+// a reader's page, makes one of five numbers.
 #[derive(Clone, Copy)]
 pub struct Saved {
     pub left: u64,
@@ -21,40 +19,23 @@ pub struct Saved {
     pub label: u64,
 }
 
-fn wide(b: u8) -> u64
-    ensures { (result ≡ b) × (result < 256) }
-{
-    b as u64
-}
-
-fn low(n: u64) -> u8
-    ensures { result ≡ n % 256 }
-{
-    (n % BYTE) as u8
-}
-
-// The word at byte `at`.
+// The word at byte `at`. The shift by ZERO is written out, as in `WordAt` and `bytes_of`, which speak of numbers and of no signed word.
 fn word_at(bytes: &[u8], at: usize) -> u64
     requires { at + 4 ≤ length bytes.now }
     ensures { WordAt bytes.now at result }
 {
-    let a = wide(bytes[at]);
-    let b = wide(bytes[at + 1]);
-    let c = wide(bytes[at + 2]);
-    let d = wide(bytes[at + 3]);
-    (a + 256 * b + 65536 * c + 16777216 * d + ZERO) % WORDS
+    let w = u32::from_le_bytes([bytes[at], bytes[at + 1], bytes[at + 2], bytes[at + 3]]);
+    (u64::from(w) + ZERO) % WORDS
 }
 
+// At a place, as `patch` states it.
 fn put_word(out: &mut [u8], at: usize, w: u64)
     requires at_in_bounds { at + 4 ≤ length out.old }
     requires w_bound { w < 2 ^ 32 }
     ensures { out.new ≡ patch out.old at (bytes_of w) }
 {
-    let u = (w + ZERO) % WORDS;
-    out[at] = low(u);
-    out[at + 1] = low(u / 256);
-    out[at + 2] = low(u / 65536);
-    out[at + 3] = low(u / 16777216);
+    let u = ((w + ZERO) % WORDS) as u32;
+    out[at..at + 4].copy_from_slice(&u.to_le_bytes());
 }
 
 // Record n of a file.

@@ -23,7 +23,7 @@ const FEW: usize = 128;
 
 const MOST: usize = 1000;
 
-// A solid's key: keys rise in the order of a saved layout.
+// A solid's key: keys rise in the order of a saved layout. One number and no struct of three, since `sorting::sort` takes numbers.
 fn key(t: &[i32], i: usize) -> u64
     requires forms { Forms t.now }
     requires size_right { SizeRight t.now }
@@ -35,26 +35,24 @@ fn key(t: &[i32], i: usize) -> u64
     (down * WIDE + right) * RECORDS + i as u64
 }
 
-// The keys of all solids, in the order of their records, and how many there are.
+// The keys of all solids, in the order of their records, and how many there are: n counts solids, not records.
 fn collect(t: &[i32], keys: &mut [u64]) -> usize
     requires forms { Forms t.now }
     requires size_right { SizeRight t.now }
     requires t_in_bounds { solids_in t.now ≤ length keys.old }
     ensures { CollectsKeys t.now keys.new result }
 {
-    let records = table::records(t);
     let mut n: usize = 0;
-    let mut i: usize = 0;
-    while i < records {
+    for i in 0..table::records(t) {
         if table::word(t, i, KIND) == SOLID {
             keys[n] = key(t, i);
             n += 1;
         }
-        i += 1;
     }
     n
 }
 
+// A conversion from a whole `table::Record` would name the same five fields twice.
 fn saved_of(t: &[i32], i: usize) -> Saved
     requires { i < records_of t.now }
     ensures { SavedFrom t.now i result }
@@ -75,39 +73,38 @@ fn write_all(t: &[i32], keys: &[u64], out: &mut [u8]) -> usize
     ensures value { result ≡ SAVED * length keys.now }
     ensures out_after { out.new ≡ file_bytes (saved_by t.now keys.now) ++ drop (SAVED * length keys.now) out.old }
 {
-    let mut k: usize = 0;
-    while k < keys.len() {
-        let i = (keys[k] % RECORDS) as usize;
+    for (k, key) in keys.iter().enumerate() {
+        let i = (*key % RECORDS) as usize;
         put_saved(out, k, saved_of(t, i));
-        k += 1;
     }
-    SAVED * k
+    SAVED * keys.len()
 }
 
-// What save does, given room for the keys and as much to spare.
-fn save_by(t: &[i32], keys: &mut [u64], spare: &mut [u64], out: &mut [u8]) -> usize
+// What save does, given room for the keys.
+fn save_by(t: &[i32], keys: &mut [u64], out: &mut [u8]) -> usize
     requires forms { Forms t.now }
     requires size_right { SizeRight t.now }
     requires t_in_bounds { solids_in t.now ≤ length keys.old }
-    requires t_in_bounds_2 { solids_in t.now ≤ length spare.old }
-    requires t_in_bounds_3 { SAVED * solids_in t.now ≤ length out.old }
+    requires t_in_bounds_2 { SAVED * solids_in t.now ≤ length out.old }
     ensures { Saves t.now out.old out.new result }
 {
     let n = collect(t, keys);
-    sort(&mut keys[..n], spare);
-    write_all(t, &keys[..n], out)
+    let found = &mut keys[..n];
+    sort(found);
+    write_all(t, found, out)
 }
 
-fn save_few(t: &[i32], out: &mut [u8]) -> usize
+// Save, with room for the keys of ROOM solids: on the stack, since nothing here takes memory from a heap.
+fn save_in<const ROOM: usize>(t: &[i32], out: &mut [u8]) -> usize
     requires forms { Forms t.now }
     requires size_right { SizeRight t.now }
-    requires t_bound { solids_in t.now ≤ 128 }
+    requires room { ROOM ≤ 1000 }
+    requires t_bound { solids_in t.now ≤ ROOM }
     requires t_in_bounds { SAVED * solids_in t.now ≤ length out.old }
     ensures { Saves t.now out.old out.new result }
 {
-    let mut keys = [0u64; FEW];
-    let mut spare = [0u64; FEW];
-    save_by(t, &mut keys, &mut spare, out)
+    let mut keys = [0u64; ROOM];
+    save_by(t, &mut keys, out)
 }
 
 // The solids of a table as a saved layout, at the start of the lent bytes, and how many bytes that takes.
@@ -119,9 +116,8 @@ pub fn save(t: &[i32], out: &mut [u8]) -> usize
     ensures { Saves t.now out.old out.new result }
 {
     if table::capacity(t) <= FEW {
-        return save_few(t, out);
+        save_in::<FEW>(t, out)
+    } else {
+        save_in::<MOST>(t, out)
     }
-    let mut keys = [0u64; MOST];
-    let mut spare = [0u64; MOST];
-    save_by(t, &mut keys, &mut spare, out)
 }

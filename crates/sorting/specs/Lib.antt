@@ -1,5 +1,3 @@
 -- Numbers in rising order, and keys to sort by: nothing here knows of tables.
 pub mod Sorting
-pub mod Merging
-pub mod Steps
 pub mod Keys

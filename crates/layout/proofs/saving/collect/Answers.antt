@@ -16,24 +16,8 @@ use Rattle.layout.proofs.saving.collect.Goals.{then-word-eq-SOLID, else-word-eq-
 pub loop-i-init : goal.loop-i-init
 loop-i-init c = collecting_none _ _ _ _
 
-pub key-requires : goal.key-requires
-key-requires c =
-    record { forms = c.requires.forms; size_right = c.requires.size_right; solid_in = record { below = omega arith; kind = sym c.word.ensures.is ∙ c.if-word-eq-SOLID.true } }
-
-pub offset_bounds-keys-n : goal.offset_bounds-keys-n
-offset_bounds-keys-n c =
-    let t = c.args.t.now in
-    let e = sym c.word.ensures.is ∙ c.if-word-eq-SOLID.true in
-    omega (arith, keys_room (solid_at t) (key t) c.loop-i.i (records_of t) (omega arith) (eq→eqb (num t c.loop-i.i KIND) SOLID e))
-
 pub bounds-keys-n : goal.bounds-keys-n
 bounds-keys-n c =
-    let t = c.args.t.now in
-    let e = sym c.word.ensures.is ∙ c.if-word-eq-SOLID.true in
-    omega (arith, keys_room (solid_at t) (key t) c.loop-i.i (records_of t) (omega arith) (eq→eqb (num t c.loop-i.i KIND) SOLID e))
-
-pub overflow_add-n : goal.overflow_add-n
-overflow_add-n c =
     let t = c.args.t.now in
     let e = sym c.word.ensures.is ∙ c.if-word-eq-SOLID.true in
     omega (arith, keys_room (solid_at t) (key t) c.loop-i.i (records_of t) (omega arith) (eq→eqb (num t c.loop-i.i KIND) SOLID e))
@@ -51,9 +35,6 @@ loop-i-preserved c =
       | else-word-eq-SOLID w ↦ rw (w.keys-is, w.n-is)
           (collecting_no (solid_at t) (key t) (records_of t) a.keys.now l.keys l.i l.n l.invariant h (ne_eqb (num t l.i KIND) SOLID (λ e. w.if-word-eq-SOLID.false (is ∙ e))))
     ]
-
-pub shape_of-keys : goal.shape_of-keys
-shape_of-keys c = c.loop-i.invariant.long
 
 pub returns : goal.returns
 returns c = collected _ _ _ _ _ _ _ c.loop-i.invariant (omega arith)

@@ -1,5 +1,4 @@
 -- `layout::saving::collect` meets its contract: the keys of the records passed are collected. Assumes nothing.
-use Prim.Native.Nat.{◌-◌}
 use Rattle.table.specs.Words.{records_of}
 use Rattle.table.specs.Sound.{solid_at}
 use Rattle.sorting.specs.Keys.{Collecting}
@@ -8,6 +7,3 @@ use Rattle.layout.proofs.saving.collect.Given as goal
 
 abbrev pub invariant-loop-i : goal.invariant-loop-i
 invariant-loop-i l = Collecting (solid_at l.t) (key l.t) (records_of l.t) l.initial.keys l.keys l.i l.n
-
-abbrev pub decreases-loop-i : goal.decreases-loop-i
-decreases-loop-i l = records_of l.t - l.i

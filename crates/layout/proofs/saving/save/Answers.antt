@@ -1,7 +1,0 @@
--- `layout::saving::save` meets its contract: there is room for the keys. Assumes nothing.
-use native.Mathlib.Omega.{arith}
-use Rattle.layout.proofs.saving.save.Goals as goal
-
-pub save_by-requires : goal.save_by-requires
-save_by-requires c =
-    record { forms = c.requires.forms; size_right = c.requires.size_right; t_in_bounds = omega arith; t_in_bounds_2 = omega arith; t_in_bounds_3 = c.requires.t_in_bounds }

@@ -1,13 +1,11 @@
 -- The lister's text, as 01 shows it, and how the lines of a list of tiles are put one after another. Assumes nothing.
-use Rattle.std.specs.Prelude.{◌≡◌, refl, ◌≢◌, List, [], ◌∷◌, ◌++◌, map, ℕ, zero, suc, ◌+◌, ◌-◌, ◌*◌, ◌≤◌, ◌<◌, ◌^◌, ℤ, pos, negsuc, length, take, drop, get_or}
-use Rattle.std.proofs.Common.{sym, ap, ◌∙◌, subst, append-nil, append_assoc, not-suc-le-zero, le_of_suc-le-suc, arith, take-suc, take_at, to_z, of_z}
-use Rattle.std.proofs.lemmas.List.{length-map}
-use Rattle.std.proofs.Math.ListN.{get_or-map}
-use Rattle.std.proofs.Math.Seq.{take-length}
+use Rattle.std.specs.Prelude.{◌≡◌, refl, ◌≢◌, List, [], ◌∷◌, ◌++◌, map, ℕ, zero, suc, ◌+◌, ◌*◌, ◌≤◌, ◌<◌, ◌^◌, ℤ, pos, negsuc, length, take, drop, get_or}
+use Rattle.std.proofs.Common.{sym, ap, ◌∙◌, subst, append-nil, append_assoc, not-suc-le-zero, le_of_suc-le-suc, arith, take_at, to_z, of_z}
+use Rattle.std.proofs.lemmas.List.{length-map, map_more, get_or-map}
 use Rattle.std.specs.Int.{w32}
-use Rattle.ruler.specs.Ruler.{ruler, ruler_pos, count_bits}
+use Rattle.ruler.specs.Ruler.{ruler, length_of, ruler_pos, count_bits}
 use Rattle.geometry.specs.Cases.{eq_cases}
-use Rattle.geometry.specs.Picture.{ZERO, LOW, HIGH, Tile}
+use Rattle.geometry.specs.Picture.{ZERO, LOW, HIGH}
 use Rattle.table.specs.Words.{records_of, tile_of}
 use Rattle.table.specs.Forms.{Forms}
 use Rattle.table.specs.Reading.{Reads}
@@ -15,8 +13,10 @@ use Rattle.table.specs.declared.Record.{Record}
 use Rattle.seek.specs.Meaning.{Area, Directed}
 use Rattle.seek.specs.Once.{times, times_here, times_other, directed_short}
 use Rattle.seek.specs.Order.{directed_lists}
-use Rattle.layout.specs.Patch.{patch_none, patch_start, Puts, puts_then}
+use Rattle.lister.specs.Sizes.{LINE}
 use Rattle.lister.specs.Text.{line_of, refused_line}
+use Rattle.lister.specs.TextLaws.{tile, Adds, adds_none, adds_then, adds_is, adds_start}
+use Rattle.lister.specs.declared.text.Text.{Text}
 use Rattle.ushanderi.specs.Answers.{DONE, answered, accepted, ruler_area, without_cell}
 use Rattle.ushanderi.specs.Promises.{Unfit, Fit, EnumerateSays, LoadSays, listed}
 use Rattle.ushanderi.specs.Reading.{fit_forms}
@@ -48,77 +48,58 @@ pub record Lists (t : List ℤ) (bs out : List ℕ) (r : ℕ) : Type 0 where
 
 -- ---- a list of record numbers as words
 
-abbrev pub entry : List ℤ → ℕ → ℕ
-entry list n = ruler (get_or list n (pos 0)) - ZERO
-
-pub record IsRecord (t list : List ℤ) (n : ℕ) : Type 0 where
-  pub from : ZERO ≤ ruler (get_or list n (pos 0))
-  pub below : entry list n < records_of t
-
 abbrev pub Records : List ℤ → List ℤ → Type 0
-Records t list = (n : ℕ) → n < length list → IsRecord t list n
+Records t list = (n : ℕ) → n < length list → length_of (get_or list n (pos 0)) < records_of t
 
-unfoldable pub lines_at : List ℤ → List ℤ → List ℕ
-lines_at t [] = []
-lines_at t (z ∷ zs) = line_of (tile_of t (ruler z - ZERO)) ++ lines_at t zs
+-- the lines of the tiles that a list names
+abbrev pub lines_at : List ℤ → List ℤ → List ℕ
+lines_at t list = lines_of t (map length_of list)
 
-lines_more : (t zs : List ℤ) (z : ℤ) → lines_at t (zs ++ (z ∷ [])) ≡ lines_at t zs ++ line_of (tile_of t (ruler z - ZERO))
-unfolding lines_at
-lines_more t [] z = append-nil (line_of (tile_of t (ruler z - ZERO)))
-lines_more t (y ∷ zs) z =
-    ap (λ l. line_of (tile_of t (ruler y - ZERO)) ++ l) (lines_more t zs z)
-    ∙ sym (append_assoc (line_of (tile_of t (ruler y - ZERO))) (lines_at t zs) (line_of (tile_of t (ruler z - ZERO))))
+records_words : (ks : List ℕ) → map length_of (map pos ks) ≡ ks
+unfolding length_of
+records_words [] = refl
+records_words (k ∷ ks) = ap (λ l. k ∷ l) (records_words ks)
 
-record_word : (k : ℕ) → ruler (pos k) - ZERO ≡ k
-record_word k = omega (arith, ruler_pos k)
+lines_more : (t : List ℤ) (ks : List ℕ) (k : ℕ) → lines_of t (ks ++ (k ∷ [])) ≡ lines_of t ks ++ line_of (tile_of t k)
+unfolding lines_of
+lines_more t [] k = append-nil (line_of (tile_of t k))
+lines_more t (j ∷ ks) k =
+    ap (λ l. line_of (tile_of t j) ++ l) (lines_more t ks k) ∙ sym (append_assoc (line_of (tile_of t j)) (lines_of t ks) (line_of (tile_of t k)))
 
-lines_records : (t : List ℤ) (ks : List ℕ) → lines_at t (map pos ks) ≡ lines_of t ks
-unfolding lines_at lines_of
-lines_records t [] = refl
-lines_records t (k ∷ ks) = ap (λ i. line_of (tile_of t i) ++ lines_at t (map pos ks)) (record_word k) ∙ ap (λ l. line_of (tile_of t k) ++ l) (lines_records t ks)
+-- record i as it is read
+tile_read : (t : List ℤ) (i : ℕ) (v : Record) → Reads t i v → tile v ≡ tile_of t i
+tile_read t i v h =
+    λ j. record { left = h.left j; bottom = h.bottom j; right = h.right j; top = h.top j; paint = record { kind = h.kind j; label = h.label j } }
 
--- ---- the loop: the lines of the first n entries are put, up to `at`
+-- ---- the loop: the lines of the first n entries are put
 
-pub record Putting (t list : List ℤ) (out₀ out : List ℕ) (at n : ℕ) : Type 0 where
-  pub within : n ≤ length list
-  pub low : at ≤ 80 * n
-  pub long : length out ≡ length out₀
-  pub puts : Puts out₀ out 0 (lines_at t (take n list)) at
+pub record Putting (t list : List ℤ) (s u : Text) (n : ℕ) : Type 0 where
+  pub adds : Adds s (lines_at t (take n list)) u
+  pub low : u.at ≤ s.at + LINE * n
 
-pub putting_none : (t list : List ℤ) (out : List ℕ) → Putting t list out out 0 0
-unfolding lines_at
-putting_none t list out =
-    record { within = omega arith; low = omega arith; long = refl; puts = record { is = sym (patch_none out 0); next = refl } }
+pub putting_none : (t list : List ℤ) (s : Text) → s.at ≤ length s.out.now → Putting t list s s 0
+unfolding lines_of
+putting_none t list s h = record { adds = adds_none s h; low = omega arith }
 
-pub putting_more : (t list : List ℤ) (out₀ out : List ℕ) (at n : ℕ) (out' : List ℕ) (i r : ℕ) → 80 * length list ≤ length out₀ → Putting t list out₀ out at n
-    → n < length list → i ≡ entry list n → Puts out out' at (line_of (tile_of t i)) r → r ≤ at + 80 → length out' ≡ length out
-    → Putting t list out₀ out' r (n + 1)
-putting_more t list out₀ out at n out' i r room p h e q l m =
-    let s : n + 1 ≡ suc n = omega arith in
-    let next : lines_at t (take (n + 1) list) ≡ lines_at t (take n list) ++ line_of (tile_of t i) =
-    ap (λ k. lines_at t (take k list)) s ∙ ap (lines_at t) (take-suc list n (pos 0) h) ∙ lines_more t (take n list) (get_or list n (pos 0))
-    ∙ ap (λ k. lines_at t (take n list) ++ line_of (tile_of t k)) (sym e) in
-    record {
-      within = omega arith;
-      low = omega (arith, p.low);
-      long = m ∙ p.long;
-      puts = subst (λ x. Puts out₀ out' 0 x r) (sym next)
-          (puts_then out₀ out out' 0 at r (lines_at t (take n list)) (line_of (tile_of t i)) (omega (arith, p.low)) p.puts q);
-    }
-
-pub putting_all : (t list : List ℤ) (out₀ out : List ℕ) (at n : ℕ) → Putting t list out₀ out at n → length list ≤ n → Puts out₀ out 0 (lines_at t list) at
-putting_all t list out₀ out at n p h =
-    let e : n ≡ length list = omega (arith, p.within) in
-    subst (λ x. Puts out₀ out 0 (lines_at t x) at) (ap (λ k. take k list) e ∙ take-length list) p.puts
+pub putting_more : (t list : List ℤ) (s u v : Text) (n i : ℕ) (r : Record) → Putting t list s u n → n < length list
+    → i ≡ length_of (get_or list n (pos 0))
+    → Reads t i r
+    → Adds u (line_of (tile r)) v
+    → v.at ≤ u.at + LINE
+    → Putting t list s v (n + 1)
+putting_more t list s u v n i r p h e k q l =
+    let next : lines_at t (take n list) ++ line_of (tile r) ≡ lines_at t (take (n + 1) list) =
+    ap (λ x. lines_at t (take n list) ++ line_of x) (tile_read t i r k ∙ ap (tile_of t) e)
+    ∙ sym (ap (lines_of t) (map_more length_of list n (pos 0) h) ∙ lines_more t (map length_of (take n list)) (length_of (get_or list n (pos 0)))) in
+    record { adds = adds_is s v _ _ next (adds_then s u v _ _ p.adds q); low = omega (arith, p.low) }
 
 -- ---- the plane
 
--- the text of the whole plane is put, and is so long
-pub record PutsPlane (t : List ℤ) (out out' : List ℕ) (r : ℕ) : Type 0 where
+-- the text of the whole plane is put
+pub record AddsPlane (t : List ℤ) (s u : Text) : Type 0 where
   pub ks : List ℕ
   pub directed : Directed t whole ks
-  pub puts : Puts out out' 0 (lines_of t ks) r
-  pub within : r ≤ length out
+  pub adds : Adds s (lines_of t ks) u
 
 -- each entry of the directed order is a record
 times_at : (ks : List ℕ) (m : ℕ) → m < length ks → 1 ≤ times (get_or ks m 0) ks
@@ -149,23 +130,25 @@ enumerated t list list' a f h (EnumerateSays.short g r ks d l e q) = absurd (ome
 enumerated t list list' a f h (EnumerateSays.done g r ks d l e q) =
     (length ks, e, record { ks = ks; directed = d; count = refl; few = directed_short t (fit_forms t f) whole ks d; is = q })
 
--- a word that is a count, read from its bits
+-- a word that is a count, read from its bits: its number on the ruler, and as a length
 word_of : (n : ℕ) (z : ℤ) → z ≡ pos n → n < 2 ^ 31 → ruler (to_z w32 (of_z w32 z)) ≡ ZERO + n
 word_of n z e h = ap ruler (count_bits n z e h) ∙ ruler_pos n ∙ omega arith
+
+count_of : (n : ℕ) (z : ℤ) → z ≡ pos n → n < 2 ^ 31 → length_of (to_z w32 (of_z w32 z)) ≡ n
+unfolding length_of
+count_of n z e h = ap length_of (count_bits n z e h)
 
 whole_is : ruler_area (negsuc 16777215) (negsuc 16777215) (pos 16777216) (pos 16777216) ≡ whole
 unfolding ruler
 whole_is = refl
 
--- its value w, read from its bits, as a count
-pub lists_plane : (t list list' : List ℤ) (a : Answer) (w : ℕ) → Fit t → records_of t ≤ length list
+-- its value, read from its bits, is the count
+pub lists_plane : (t list list' : List ℤ) (a : Answer) (n : ℕ) → Fit t → records_of t ≤ length list
     → EnumerateSays t (ruler_area (negsuc 16777215) (negsuc 16777215) (pos 16777216) (pos 16777216)) list list' a
-    → w ≡ ruler (to_z w32 (of_z w32 a.value)) → (ZERO ≤ w) × ListsPlane t list list' (w - ZERO)
-lists_plane t list list' a w f h s e =
-    let (n, is, p) = enumerated t list list' a f h (subst (λ A. EnumerateSays t A list list' a) whole_is s) in
-    let v = e ∙ word_of n a.value (ap (λ a. a.value) is) (omega (arith, p.count, p.few, f.size.most)) in
-    let q : n ≡ w - ZERO = omega arith in
-    (omega arith, subst (ListsPlane t list list') q p)
+    → n ≡ length_of (to_z w32 (of_z w32 a.value)) → ListsPlane t list list' n
+lists_plane t list list' a n f h s e =
+    let (m, is, p) = enumerated t list list' a f h (subst (λ A. EnumerateSays t A list list' a) whole_is s) in
+    subst (ListsPlane t list list') (sym (e ∙ count_of m a.value (ap (λ a. a.value) is) (omega (arith, p.count, p.few, f.size.most)))) p
 
 module _ (t list list' : List ℤ) (n : ℕ) (f : Fit t) (p : ListsPlane t list list' n) where
   first : take n list' ≡ map pos p.ks
@@ -177,37 +160,17 @@ module _ (t list list' : List ℤ) (n : ℕ) (f : Fit t) (p : ListsPlane t list 
   pub listed_few : n ≤ records_of t
   listed_few = omega (arith, p.count, p.few)
 
+  words : map length_of (take n list') ≡ p.ks
+  words = ap (map length_of) first ∙ records_words p.ks
+
   pub listed_records : Records t (take n list')
-  listed_records = subst (Records t) (sym first) each
-    where
-      each : Records t (map pos p.ks)
-      each m l =
-          let k : get_or (map pos p.ks) m (pos 0) ≡ pos (get_or p.ks m 0) = get_or-map pos p.ks m 0 in
-          let r : ruler (get_or (map pos p.ks) m (pos 0)) ≡ get_or p.ks m 0 + ZERO = ap ruler k ∙ ruler_pos (get_or p.ks m 0) in
-          let b : m < length p.ks = omega (arith, length-map p.ks pos) in
-          record { from = omega arith; below = omega (arith, directed_below t (fit_forms t f) p.ks p.directed m b) }
+  listed_records m l =
+      let e : length_of (get_or (take n list') m (pos 0)) ≡ get_or p.ks m 0 = sym (get_or-map length_of (take n list') m (pos 0) 0 l) ∙ ap (λ ks. get_or ks m 0) words in
+      let b : m < length p.ks = omega (arith, ap length words, length-map (take n list') length_of) in
+      omega (arith, directed_below t (fit_forms t f) p.ks p.directed m b)
 
-  pub puts_plane : (out out' : List ℕ) (r : ℕ) → Puts out out' 0 (lines_at t (take n list')) r → r ≤ length out → PutsPlane t out out' r
-  puts_plane out out' r w l =
-      record {
-        ks = p.ks;
-        directed = p.directed;
-        puts = subst (λ x. Puts out out' 0 x r) (ap (lines_at t) first ∙ lines_records t p.ks) w;
-        within = l;
-      }
-
--- ---- the text at the start of the lent bytes
-
-pub text_at : (out out' text : List ℕ) (r : ℕ) → Puts out out' 0 text r → take r out' ≡ text
-text_at out out' text r p =
-    let e : length text ≡ r = omega (arith, p.next) in
-    ap (take r) (p.is ∙ patch_start out text) ∙ take_at text (drop (length text) out) r e
-
--- record i as it is read
-pub tile_read : (t : List ℤ) (i : ℕ) (v : Record) → Reads t i v
-    → ◌≡◌ {A = Tile} (record { left = v.left; bottom = v.bottom; right = v.right; top = v.top; paint = record { kind = v.kind; label = v.label } }) (tile_of t i)
-tile_read t i v h =
-    λ j. record { left = h.left j; bottom = h.bottom j; right = h.right j; top = h.top j; paint = record { kind = h.kind j; label = h.label j } }
+  pub adds_plane : (s u : Text) → Adds s (lines_at t (take n list')) u → AddsPlane t s u
+  adds_plane s u q = record { ks = p.ks; directed = p.directed; adds = adds_is s u _ _ (ap (lines_of t) words) q }
 
 -- ---- the ends of a load
 
@@ -219,13 +182,20 @@ ends_well t t' a (Ends.not number value e p h k) q = absurd (omega (arith, ap (�
 pub load_well : (t : List ℤ) (bs : List ℕ) (t' : List ℤ) (a : MetAnswer) → LoadSays t bs t' a → of_z w32 a.number ≡ 0 → Fit t' × (length t' ≡ length t)
 load_well t bs t' a s q = let (n, e, f, l) = ends_well t t' a (load_ends t bs t' a s) q in (f, l)
 
-pub lists_tiles : (t : List ℤ) (bs : List ℕ) (t' : List ℤ) (a : MetAnswer) (out out' : List ℕ) (r : ℕ) → LoadSays t bs t' a → of_z w32 a.number ≡ 0
-    → PutsPlane t' out out' r → length out' ≡ length out → Lists t bs out' r
-lists_tiles t bs t' a out out' r s q p l =
-    let (n, e, f, m) = ends_well t t' a (load_ends t bs t' a s) q in
+-- the text in the lent bytes, once they are given back
+pub lists_tiles : (t : List ℤ) (bs : List ℕ) (t' : List ℤ) (a : MetAnswer) (s u : Text) (out : List ℕ) (r : ℕ) → LoadSays t bs t' a
+    → of_z w32 a.number ≡ 0
+    → AddsPlane t' s u
+    → s.at ≡ 0
+    → out ≡ u.out.now
+    → r ≡ u.at
+    → Lists t bs out r
+lists_tiles t bs t' a s u out r q z p e o at =
+    let (n, is, f, m) = ends_well t t' a (load_ends t bs t' a q) z in
     record {
-      within = omega (arith, p.within);
-      prints = Prints.tiles t' n p.ks (subst (LoadSays t bs t') e s) p.directed (text_at out out' (lines_of t' p.ks) r p.puts);
+      within = omega (arith, ap length o, p.adds.within, p.adds.long);
+      prints = Prints.tiles t' n p.ks (subst (LoadSays t bs t') is q) p.directed
+          (ap (λ n. take n out) at ∙ ap (take u.at) o ∙ adds_start s u (lines_of t' p.ks) e p.adds);
     }
 
 -- a refusal's number and value as they are printed
@@ -252,12 +222,13 @@ ends_not t bs t' a s (Ends.not number value e p h k) q =
 pub load_not : (t : List ℤ) (bs : List ℕ) (t' : List ℤ) (a : MetAnswer) → LoadSays t bs t' a → (of_z w32 a.number ≡ 0 → ⊥) → Refuses t bs t' a
 load_not t bs t' a s q = ends_not t bs t' a s (load_ends t bs t' a s) q
 
-pub lists_refused : (t : List ℤ) (bs : List ℕ) (t' : List ℤ) (a : MetAnswer) (out out' : List ℕ) (m v r : ℕ) → (f : Refuses t bs t' a)
-    → m ≡ ZERO + f.number → v ≡ ZERO + f.value → Puts out out' 0 (refused_line m v) r → r ≤ length out → length out' ≡ length out → Lists t bs out' r
-lists_refused t bs t' a out out' m v r f e d p w l =
+pub lists_refused : (t : List ℤ) (bs : List ℕ) (t' : List ℤ) (a : MetAnswer) (s u : Text) (m v : ℕ) (out : List ℕ) (r : ℕ) → (f : Refuses t bs t' a)
+    → m ≡ ZERO + f.number → v ≡ ZERO + f.value → Adds s (refused_line m v) u → s.at ≡ 0 → out ≡ u.out.now → r ≡ u.at → Lists t bs out r
+lists_refused t bs t' a s u m v out r f e d p z o at =
     record {
-      within = omega arith;
+      within = omega (arith, ap length o, p.within, p.long);
       prints =
           Prints.refused t' f.number f.value f.says f.not_done
-          (text_at out out' (refused_line m v) r p ∙ ap (λ m. refused_line m v) e ∙ ap (refused_line (ZERO + f.number)) d);
+          (ap (λ n. take n out) at ∙ ap (take u.at) o ∙ adds_start s u (refused_line m v) z p ∙ ap (λ m. refused_line m v) e
+          ∙ ap (refused_line (ZERO + f.number)) d);
     }

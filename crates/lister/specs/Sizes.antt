@@ -2,8 +2,8 @@
 use Rattle.std.specs.Prelude.{◌≡◌, refl, List, ℕ, ◌+◌, ◌*◌, ◌≤◌, ℤ, length, take}
 use Rattle.table.specs.Words.{WIDTH}
 use Rattle.table.specs.Sound.{capacity}
-use Rattle.lister.specs.declared.input.Input.{Input}
-use Rattle.lister.specs.declared.input.Input.TheVariants.{Layout, Failed}
+use Rattle.std.specs.declared.result.Result.{Result}
+use Rattle.std.specs.declared.result.Result.TheVariants.{Ok, Err}
 use Rattle.layout.specs.Bytes.{SAVED}
 
 -- the most bytes that are read
@@ -34,11 +34,11 @@ pub reads_401 : BYTES ≡ SAVED * (capacity RECORDS + 1)
 reads_401 = refl
 
 -- what is read of the input lies at the start of the lent bytes
-abbrev pub Within : Input → List ℕ → Type 0
-Within (Layout n) bytes = n ≤ length bytes
-Within Failed bytes = Unit {0}
+abbrev pub Within : {E : Type 0} → Result ℕ E → List ℕ → Type 0
+Within (Ok n) bytes = n ≤ length bytes
+Within (Err e) bytes = Unit {0}
 
 -- where what the input has left is known: its bytes, as many as are read at most
-abbrev pub Reads : Input → List ℕ → List ℕ → Type 0
-Reads (Layout n) bytes left = take n bytes ≡ take BYTES left
-Reads Failed bytes left = Unit {0}
+abbrev pub Reads : {E : Type 0} → Result ℕ E → List ℕ → List ℕ → Type 0
+Reads (Ok n) bytes left = take n bytes ≡ take BYTES left
+Reads (Err e) bytes left = Unit {0}

@@ -1,16 +1,12 @@
 // The lister's text: the lines of the plane that a saved layout loads as, or the line of a refused load.
-ghost use Rattle.std.specs.Prelude.{◌≡◌, ◌+◌, ◌*◌, ◌≤◌, ◌<◌, pos, length, get_or};
-ghost use Rattle.ruler.specs.Ruler.{ruler};
-ghost use Rattle.geometry.specs.Picture.{ZERO};
-ghost use Rattle.table.specs.Words.{records_of, tile_of};
-ghost use Rattle.layout.specs.Patch.{Puts};
-ghost use Rattle.lister.specs.Text.{line_of};
+ghost use Rattle.std.specs.Prelude.{◌≡◌, ◌+◌, ◌*◌, ◌≤◌, length};
+ghost use Rattle.table.specs.Words.{records_of};
 ghost use Rattle.ushanderi.specs.Promises.{Fit};
+ghost use Rattle.lister.specs.TextLaws.{Adds};
 ghost use Rattle.lister.specs.Sizes.{LINE, Sized};
-ghost use Rattle.lister.specs.Listing.{entry, Records, lines_at, ListsPlane, PutsPlane, Lists};
+ghost use Rattle.lister.specs.Listing.{Records, lines_at, ListsPlane, AddsPlane, Lists};
 
-use crate::text::{put_line, put_refused};
-use table::numbers::ZERO;
+use crate::text::Text;
 use ushanderi::answer::DONE;
 
 // The plane's ends.
@@ -18,41 +14,16 @@ const LEAST: i32 = -16777216;
 
 const MOST: i32 = 16777216;
 
-// Entry n of a list of record numbers.
-fn record_at(list: &[i32], n: usize) -> usize
-    requires n_in_bounds { n < length list.now }
-    requires bound { ZERO ≤ ruler (get_or list.now n (pos 0)) }
-    ensures { result ≡ entry list.now n }
-{
-    (ruler::at(list[n]) - ZERO) as usize
-}
-
-// The line of tile i.
-fn put_tile(t: &[i32], i: usize, out: &mut [u8], at: usize) -> usize
-    requires i_bound { i < records_of t.now }
-    requires at_in_bounds { at + LINE ≤ length out.old }
-    ensures puts { Puts out.old out.new at (line_of (tile_of t.now i)) result }
-    ensures upper_bound { result ≤ at + LINE }
-{
-    let v = table::read(t, i);
-    put_line(out, at, v.kind, v.label, v.left, v.bottom, v.right, v.top)
-}
-
 // The lines of the tiles that a list names.
-fn put_lines(t: &[i32], list: &[i32], out: &mut [u8]) -> usize
+fn put_lines(t: &[i32], list: &[i32], text: &mut Text<'_>)
     requires records { Records t.now list.now }
-    requires list_in_bounds { LINE * length list.now ≤ length out.old }
-    ensures puts { Puts out.old out.new 0 (lines_at t.now list.now) result }
-    ensures upper_bound { result ≤ length out.old }
+    requires room { text.old.at + LINE * length list.now ≤ length text.old.out.now }
+    ensures { Adds text.old (lines_at t.now list.now) text.new }
 {
-    let mut at: usize = 0;
-    let mut n: usize = 0;
-    while n < list.len() {
-        let i = record_at(list, n);
-        at = put_tile(t, i, out, at);
-        n += 1;
+    for entry in list {
+        let i = ruler::length(*entry) as usize;
+        text.put_line(table::read(t, i));
     }
-    at
 }
 
 // All tiles of a sound table, in directed order: how many there are. The list has room for every record.
@@ -62,18 +33,18 @@ fn list_plane(t: &[i32], list: &mut [i32]) -> usize
     ensures { ListsPlane t.now list.old list.new result }
 {
     let a = ushanderi::reading::enumerate(t, LEAST, LEAST, MOST, MOST, list);
-    (ruler::at(a.value) - ZERO) as usize
+    ruler::length(a.value) as usize
 }
 
 // The lines of all tiles of a sound table, in directed order.
-fn put_plane(t: &[i32], list: &mut [i32], out: &mut [u8]) -> usize
+fn put_plane(t: &[i32], list: &mut [i32], text: &mut Text<'_>)
     requires fit { Fit t.now }
     requires t_in_bounds { records_of t.now ≤ length list.old }
-    requires t_in_bounds_2 { LINE * records_of t.now ≤ length out.old }
-    ensures { PutsPlane t.now out.old out.new result }
+    requires room { text.old.at + LINE * records_of t.now ≤ length text.old.out.now }
+    ensures { AddsPlane t.now text.old text.new }
 {
     let n = list_plane(t, list);
-    put_lines(t, &list[..n], out)
+    put_lines(t, &list[..n], text);
 }
 
 // A saved layout loaded into a table, and its text at the start of the lent bytes: how many bytes that is.
@@ -82,9 +53,11 @@ pub(crate) fn list(t: &mut [i32], bytes: &[u8], list: &mut [i32], out: &mut [u8]
     ensures { Lists t.old bytes.now out.new result }
 {
     let a = ushanderi::layouts::load(t, bytes);
+    let mut text = Text::new(out);
     if a.number == DONE {
-        put_plane(t, list, out)
+        put_plane(t, list, &mut text);
     } else {
-        put_refused(out, 0, ruler::at(a.number), ruler::at(a.value))
+        text.put_refused(ruler::at(a.number), ruler::at(a.value));
     }
+    text.len()
 }

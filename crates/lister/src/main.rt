@@ -5,7 +5,7 @@ mod input;
 mod listing;
 mod text;
 
-use input::Input;
+use std::io;
 use std::process::ExitCode;
 use table::numbers::WIDTH;
 
@@ -16,20 +16,24 @@ const RECORDS: usize = 1616;
 
 const LINE: usize = 80;
 
+// Tells on standard error which stream failed, and why.
+fn failed(rt: &impl Eprint, stream: &str, error: io::Error) -> ExitCode {
+    let _ = eprintln!(rt; "lister: standard {stream}: {error}");
+    ExitCode::FAILURE
+}
+
 fn main(rt: HostRuntime) -> ExitCode {
     let mut bytes = [0u8; BYTES];
-    let read = input::read_layout(&rt, &mut rt.stdin(), &mut bytes);
-    let Input::Layout(count) = read else {
-        return ExitCode::FAILURE;
+    let count = match input::read_layout(&mut rt.stdin(), &mut bytes) {
+        Ok(count) => count,
+        Err(error) => return failed(&rt, "input", error),
     };
     let mut table = [0i32; WIDTH * RECORDS];
     let mut list = [0i32; RECORDS];
     let mut text = [0u8; LINE * RECORDS];
     let n = listing::list(&mut table, &bytes[..count], &mut list, &mut text);
-    let written = rt.write_all(&text[..n]);
-    if let Err(error) = written {
-        let _ = eprintln!(rt; "lister: standard output: {error}");
-        return ExitCode::FAILURE;
+    match rt.write_all(&text[..n]) {
+        Ok(()) => ExitCode::SUCCESS,
+        Err(error) => failed(&rt, "output", error),
     }
-    ExitCode::SUCCESS
 }

@@ -6,16 +6,16 @@ use Rattle.lister.proofs.input.read_layout.Goals as goal
 pub loop-done-preserved : goal.loop-done-preserved
 loop-done-preserved g c =
     let l = c.loop-done in
-    let r = c.in-Ok.ensures in
+    let r = c.in_ok-more.ensures in
     record { within = search rules; came = came_more _ _ _ _ _ _ _ _ l.invariant.within r.bound.0 l.invariant.came r.bytes.0 }
 
 -- no bytes, though there was room for one: the input has ended
-pub returns-in-Ok-eq0-clause-reads : goal.returns-in-Ok-eq0-clause-reads
-returns-in-Ok-eq0-clause-reads g c =
+pub returns-then-more-eq0-clause-reads : goal.returns-then-more-eq0-clause-reads
+returns-then-more-eq0-clause-reads g c =
     let l = c.loop-done in
-    let r = c.in-Ok-eq0 in
+    let r = c.in_ok-more.ensures in
     let room : 0 < length c.read.new.buf = omega arith in
-    came_all _ _ _ _ _ _ _ _ l.invariant.within (omega arith) r.field-0-test l.invariant.came r.ensures.bytes.0 (r.ensures.bytes.1 r.field-0-test room)
+    came_all _ _ _ _ _ _ _ _ l.invariant.within (omega arith) c.if-more-eq0.true l.invariant.came r.bytes.0 (r.bytes.1 c.if-more-eq0.true room)
 
 pub returns-clause-reads : goal.returns-clause-reads
 returns-clause-reads g c =

@@ -2,10 +2,5 @@
 use Rattle.lister.specs.Listing.{lists_plane}
 use Rattle.lister.proofs.listing.list_plane.Goals as goal
 
-pub overflow_sub-result : goal.overflow_sub-result
-overflow_sub-result c =
-    (lists_plane _ _ _ _ _ c.requires.fit c.requires.t_in_bounds c.enumerate-a.ensures c.at.ensures.is).0
-
 pub returns : goal.returns
-returns c =
-    (lists_plane _ _ _ _ _ c.requires.fit c.requires.t_in_bounds c.enumerate-a.ensures c.at.ensures.is).1
+returns c = lists_plane _ _ _ _ _ c.requires.fit c.requires.t_in_bounds c.enumerate-a.ensures c.length.ensures

@@ -1,6 +1,6 @@
 -- What one turn of the loop writes, and that it goes on with the report. Assumes nothing.
 use Rattle.std.specs.Prelude.{◌≡◌, List, ℤ, ℕ, ◌+◌, ◌*◌, ◌<◌, min, max, Float, length, get_or, set}
-use Rattle.std.proofs.Common.{sym, ap, ap₂, ◌∙◌, subst, arith, length-set, get_or-set_same, get_or-set_other}
+use Rattle.std.proofs.Common.{sym, ap, ap₂, ◌∙◌, subst, arith, take, length-set, get_or-set_same, get_or-set_other}
 use Rattle.std.specs.Float.Ieee as Ieee
 use Rattle.std.specs.Float.{nan}
 use Rattle.geometry.specs.Cases.{lt_cases}
@@ -10,7 +10,7 @@ use Rattle.density.specs.Shares.{float, share_of}
 use Rattle.density.specs.Report.{Written}
 use Rattle.density.specs.Summing.{sum_next}
 use Rattle.density.specs.Reporting.{Reporting, least_next, most_next}
-use Rattle.density.specs.Tallying.{Tallying, tally_one, tally_in, tally_back}
+use Rattle.density.specs.Tallying.{Ready, tally_one, tally_in, tally_back}
 
 pub written_on : (t : List ℤ) (A : Area) (w h : ℕ) (old new : List Float) (n c : ℕ) (s : Float) → Written t A w h old new n → n < length new
     → c ≡ count_of t A w h n → s ≡ share_of c (w * h) → Written t A w h old (set new n s) (n + 1)
@@ -37,11 +37,11 @@ report_on t A w h old new n lowest highest total c s r l b e d = record {
   total = ap₂ ◌+◌ r.total e ∙ sym (sum_next n (count_of t A w h));
 }
 
-pub tally_on : (t : List ℤ) (w h many : ℕ) (old new : List Float) (n low high sum : ℕ) (s : Float)
-    → Tallying t w h many old new n low high sum → n < many → let c = Ieee.to_unsigned 64 (get_or new n nan) in s ≡ share_of c (w * h)
-    → Tallying t w h many old (set new n s) (n + 1) (min low c) (max high c) (sum + c)
-tally_on t w h many old new n low high sum s d l e A r =
-    let p = d A r in
-    report_on t A w h old new n low high sum (Ieee.to_unsigned 64 (get_or new n nan)) s p
-    (tally_one t A w h many old new n low high sum r p l) (tally_in t A w h many old new n low high sum r p l)
-    (tally_back t A w h many old new n low high sum r p l).1 e
+pub tally_on : (t : List ℤ) (A : Area) (w h many : ℕ) (out new : List Float) (n low high sum : ℕ) (s : Float)
+    → Ready t A w h many out → Reporting t A w h (take many out) new n low high sum → n < length (take many out)
+    → let c = Ieee.to_unsigned 64 (get_or new n nan) in s ≡ share_of c (w * h)
+    → Reporting t A w h (take many out) (set new n s) (n + 1) (min low c) (max high c) (sum + c)
+tally_on t A w h many out new n low high sum s r d l e =
+    report_on t A w h (take many out) new n low high sum (Ieee.to_unsigned 64 (get_or new n nan)) s d
+    (tally_one t A w h many out new n low high sum r d l) (tally_in t A w h many out new n low high sum r d l)
+    (tally_back t A w h many out new n low high sum r d l).1 e

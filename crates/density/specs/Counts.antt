@@ -1,6 +1,8 @@
 -- Counts of cells, kept as floats in the lent list until they become shares: a float holds them without loss. Assumes nothing.
-use Rattle.std.specs.Prelude.{◌≡◌, refl, ◌≢◌, true, false, List, [], ◌∷◌, ℕ, zero, suc, ◌+◌, ◌*◌, ◌≤◌, ◌<◌, ◌^◌, T, eqb, ℤ, Float, length, get_or, set}
-use Rattle.std.proofs.Common.{sym, ap, ap₂, ◌∙◌, subst, true≢false, le_refl, not-suc-le-zero, le_of_suc-le-suc, mul-one, mul_assoc, mul_comm, mul-pos, add-mul, add-zero, arith, eq-eqb, ne_eqb, length-set, get_or-set_same, get_or-set_other}
+use Rattle.std.specs.Prelude.{◌≡◌, refl, ◌≢◌, true, false, List, [], ◌∷◌, ◌++◌, ℕ, zero, suc, ◌+◌, ◌-◌, ◌*◌, ◌≤◌, ◌<◌, ◌^◌, T, eqb, ℤ, Float, length, get_or, set}
+use Rattle.std.proofs.Common.{sym, ap, ap₂, ◌∙◌, subst, true≢false, le_refl, not-suc-le-zero, le_of_suc-le-suc, mul-one, mul_assoc, mul_comm, mul-pos, add-mul, add-zero, arith, eq-eqb, ne_eqb, drop, length-append, length-drop, length-set, get_or-set_same, get_or-set_other}
+use Rattle.std.proofs.lemmas.List.{get_or-append_right, get_or-drop}
+use Rattle.std.proofs.Math.ListN.{get_or-append}
 use Rattle.std.specs.Float.Ieee as Ieee
 use Rattle.std.specs.Float.{nan, inf, fin, Format, binary64}
 use Rattle.std.specs.Float.Ieee.{up, down}
@@ -8,7 +10,7 @@ use Rattle.std.specs.Float.Ieee.Fits.{down_pos}
 use Rattle.std.specs.Float.Ieee.Exact.{HasValue}
 use Rattle.std.specs.Float.Ieee.Back.{unsigned_back}
 use Rattle.std.specs.Float.Ieee.Scale.{round_same}
-use Rattle.geometry.specs.Cases.{lt_cases, eq_cases}
+use Rattle.geometry.specs.Cases.{eq_cases}
 use Rattle.geometry.specs.Counting.{only}
 use Rattle.seek.specs.Meaning.{Area}
 use Rattle.density.specs.Meaning.{windows_of, count_of}
@@ -66,20 +68,21 @@ read_any [] n d e h = absurd (not-suc-le-zero h)
 read_any (x ∷ xs) zero d e h = refl
 read_any (x ∷ xs) (suc n) d e h = read_any xs n d e (le_of_suc-le-suc h)
 
-pub counts_none : (old : List Float) (f : ℕ → ℕ) → Counts old old 0 f
-counts_none old f = record { long = refl; counts = λ m l. absurd (omega arith); rest = λ m l. refl }
+-- a list whose first n entries are written anew, and the rest kept
+module _ (front old : List Float) (n : ℕ) (e : length front ≡ n) (l : n ≤ length old) where
+  pub front_long : length (front ++ drop n old) ≡ length old
+  front_long = omega (arith, length-append front (drop n old), length-drop n old)
 
-pub counts_next : (old new : List Float) (n : ℕ) (f : ℕ → ℕ) (s : Float) → Counts old new n f → n < length new → s ≡ float (f n)
-    → Counts old (set new n s) (n + 1) f
-counts_next old new n f s r l e = record {
-  long = length-set new n s ∙ r.long;
-  counts = λ m k.
-      lt_cases m n (λ b. get_or-set_other new n m s (float 0) (λ q. omega arith) ∙ r.counts m b)
-      (λ b.
-      let q : m ≡ n = omega arith in
-      subst (λ m. get_or (set new n s) m (float 0) ≡ float (f m)) (sym q) (get_or-set_same new n s (float 0) l ∙ e));
-  rest = λ m k. get_or-set_other new n m s (float 0) (λ q. omega arith) ∙ r.rest m (omega arith);
-}
+  pub front_has : (m : ℕ) → m < n → get_or (front ++ drop n old) m (float 0) ≡ get_or front m (float 0)
+  front_has m h = get_or-append front (drop n old) (float 0) m (omega arith)
+
+  pub front_rest : (m : ℕ) → n ≤ m → get_or (front ++ drop n old) m (float 0) ≡ get_or old m (float 0)
+  front_rest m h =
+      let k : n + (m - n) ≡ m = omega arith in
+      get_or-append_right front (drop n old) n m (float 0) e h ∙ get_or-drop n old (m - n) (float 0) ∙ ap (λ i. get_or old i (float 0)) k
+
+  pub counts_front : (f : ℕ → ℕ) → ((m : ℕ) → m < n → get_or front m (float 0) ≡ float (f m)) → Counts old (front ++ drop n old) n f
+  counts_front f h = record { long = front_long; counts = λ m k. front_has m k ∙ h m k; rest = front_rest }
 
 -- c more at entry m, and at no other
 more_same : (f : ℕ → ℕ) (m c : ℕ) → f m + c ≡ f m + only (eqb m m) c

@@ -1,7 +1,7 @@
 -- A row of windows: the columns from one edge to another, so many rows high, added window by window. Assumes nothing.
 use Rattle.std.specs.Prelude.{◌≡◌, List, ℕ, suc, ◌+◌, ◌-◌, ◌*◌, ◌≤◌, ◌<◌, ◌^◌, min, max, eqb, leb, ltb, Float, length, get_or, set}
 use Rattle.std.proofs.Common.{sym, ◌∙◌, suc-mul, mul-le-mul, mul-le-mul_right, zero-mul, arith, lt-ltb, le-ltb, le-leb, eq-eqb, ne_eqb}
-use Rattle.std.proofs.Math.Path.{ap}
+use Rattle.std.proofs.Math.Path.{ap, subst}
 use Rattle.std.specs.Float.Ieee as Ieee
 use Rattle.std.specs.Float.{binary64}
 use Rattle.std.proofs.lemmas.Bool.{lt-leb}
@@ -102,64 +102,61 @@ module _ (n edge w left right rows : ℕ) where
       let e : columns_in edge w left right (m - n) ≡ 0 = omega arith in
       part_from m h ∙ ap (λ c. c * rows) e ∙ zero-mul rows
 
-  -- where the loop stands: the window i, its right end, and the first column that is not yet added
-  pub record RowGoes (i from end : ℕ) : Type 0 where
+  -- where the loop stands: the window i, and the column where it begins
+  pub record RowGoes (i start : ℕ) : Type 0 where
     pub past : n ≤ i
-    pub at : from ≡ min right (max left (edge + (i - n) * w))
-    pub next : end ≡ edge + (i - n) * w + w
+    pub at : start ≡ edge + (i - n) * w
 
-  abbrev pub Adding : List Float → List Float → ℕ → Type 0
-  Adding old new i = (N : ℕ) → N ≤ length old → right ≤ edge + (N - n) * w → Grow N old new part (up_to i part)
+  abbrev pub Adding : List Float → List Float → ℕ → ℕ → Type 0
+  Adding old new i start = RowGoes i start × ((N : ℕ) → N ≤ length old → right ≤ edge + (N - n) * w → Grow N old new part (up_to i part))
 
   further : (i : ℕ) → n ≤ i → (i + 1 - n) * w ≡ (i - n) * w + w
   further i h = let e : i + 1 - n ≡ suc (i - n) = omega arith in ap (λ k. k * w) e ∙ suc-mul (i - n) w
 
   module _ (len : ℕ) (o : RowFits len n edge w left right rows) where
-    pub row_starts : RowGoes n left (edge + w)
+    row_starts : RowGoes n edge
     row_starts =
         let e : (n - n) * w ≡ 0 = ap (λ k. k * w) (let d : n - n ≡ 0 = omega arith in d) ∙ zero-mul w in
-        record { past = omega arith; at = omega (arith, o); next = omega arith }
+        record { past = omega arith; at = omega arith }
 
-    pub row_on : (i from end to : ℕ) → RowGoes i from end → from < right → to ≡ min end right → RowGoes (i + 1) to (end + w)
-    row_on i from end to r h e =
+    row_on : (i start : ℕ) → RowGoes i start → RowGoes (i + 1) (start + w)
+    row_on i start r =
         let d = further i r.past in
-        record { past = omega (arith, r.past); at = omega (arith, r, o); next = omega (arith, r.next) }
+        record { past = omega (arith, r.past); at = omega (arith, r.at) }
 
-    -- the next column lies further right, and what is added is the window's part
-    pub row_less : (i from end to : ℕ) → RowGoes i from end → from < right → to ≡ min end right → from < to
-    row_less i from end to r h e = omega (arith, r, o)
-
-    pub row_gives : (i from end to c : ℕ) → RowGoes i from end → from < right → to ≡ min end right → c ≡ (to - from) * rows → c ≡ part i
-    row_gives i from end to c r h e d =
-        let q : to - from ≡ columns_in edge w left right (i - n) = omega (arith, r, o) in
-        d ∙ ap (λ k. k * rows) q ∙ sym (part_from i r.past)
+    -- what is added is the window's part
+    row_gives : (i start c : ℕ) → RowGoes i start → c ≡ (min right (start + w) - max left start) * rows → c ≡ part i
+    row_gives i start c r d = d ∙ ap (λ k. (min right (k + w) - max left k) * rows) r.at ∙ sym (part_from i r.past)
 
     -- the window is one of those there are
-    pub row_inside : (N i from end : ℕ) → RowGoes i from end → from < right → right ≤ edge + (N - n) * w → i < N
-    row_inside N i from end r h k =
+    pub row_inside : (N i start : ℕ) → RowGoes i start → start < right → right ≤ edge + (N - n) * w → i < N
+    row_inside N i start r h k =
         lt_cases i N (λ l. l)
         (λ l. absurd (omega (arith, r, o, mul-le-mul_right {m = N - n} {n = i - n} w (omega arith))))
 
-    pub row_end_small : (i from end : ℕ) → RowGoes i from end → from < right → end < 2 ^ 33
-    row_end_small i from end r h = omega (arith, r, o)
+    pub adding_starts : (old : List Float) → Adding old old n edge
+    adding_starts old = (
+      row_starts,
+      λ N l k base f c b.
+          counts_same base _ _ _ _ c
+          (λ m h. lt_cases m n
+          (λ g. omega (arith, only_lt m n (part m) g, part_before m g))
+          (λ g. omega (arith, only_ge m n (part m) g))),
+    )
 
-    pub adding_starts : (old : List Float) → Adding old old n
-    adding_starts old N l k base f c b =
-        counts_same base _ _ _ _ c
-        (λ m h. lt_cases m n
-        (λ g. omega (arith, only_lt m n (part m) g, part_before m g))
-        (λ g. omega (arith, only_ge m n (part m) g)))
+    pub adding_on : (old new next : List Float) (i start c : ℕ) → Adding old new i start → start < right → c ≡ (min right (start + w) - max left start) * rows
+        → length new ≡ length old → next ≡ set new i (Ieee.add binary64 (get_or new i (float 0)) (float c)) → Adding old next (i + 1) (start + w)
+    adding_on old new next i start c (r, g) h d s e = (
+      row_on i start r,
+      λ N l k.
+          subst (λ out. Grow N old out part (up_to (i + 1) part)) (sym e)
+          (grow_next N old new part i c l s (row_inside N i start r h k) (row_gives i start c r d) (g N l k)),
+    )
 
-    pub adding_on : (old new : List Float) (i from end to c : ℕ) → RowGoes i from end → from < right → to ≡ min end right → c ≡ (to - from) * rows
-        → length new ≡ length old → Adding old new i → Adding old (set new i (Ieee.add binary64 (get_or new i (float 0)) (float c))) (i + 1)
-    adding_on old new i from end to c r h e d s g N l k =
-        grow_next N old new part i c l s (row_inside N i from end r h k) (row_gives i from end to c r h e d) (g N l k)
-
-    pub adding_ends : (old new : List Float) (i from end : ℕ) → RowGoes i from end → right ≤ from → Adding old new i → AddsRow old new n edge w left right rows
-    adding_ends old new i from end r h g N l k =
-        let past : right ≤ edge + (i - n) * w = omega (arith, r, o) in
+    pub adding_ends : (old new : List Float) (i start : ℕ) → Adding old new i start → right ≤ start → AddsRow old new n edge w left right rows
+    adding_ends old new i start (r, g) h N l k =
         grow_same N old new part (up_to i part) part
         (λ m b. lt_cases m i
         (λ q. only_lt m i (part m) q)
-        (λ q. only_ge m i (part m) q ∙ sym (part_past m (omega (arith, r.past)) (omega (arith, past, mul-le-mul_right {m = i - n} {n = m - n} w (omega arith))))))
+        (λ q. only_ge m i (part m) q ∙ sym (part_past m (omega (arith, r.past)) (omega (arith, r.at, mul-le-mul_right {m = i - n} {n = m - n} w (omega arith))))))
         (g N l k)

@@ -54,12 +54,10 @@ pub spread_starts : (t : List ℤ) (A : Area) (w h : ℕ) (list : List ℤ) (old
 spread_starts t A w h list old base c = counts_same base _ _ _ _ c (λ m l. sums_none t (window_of A w h m) list)
 
 module _ (t : List ℤ) (f : Forms t) (A : Area) (a : RectRight A) (w h : ℕ) (s : Steps A w h) where
-  pub part_fits : (k : ℕ) → Meets t A k → PartFits A w h (part_of A (box_of t k))
+  pub part_fits : (k : ℕ) → Meets t A k → PartFits A (part_of A (box_of t k))
   part_fits k m =
       let z = formed t f k m.used in
       record {
-        rect = a;
-        steps = s;
         inside = record { left = omega arith; bottom = omega arith; right = omega arith; top = omega arith };
         wide = omega (arith, z, m, a);
         high = omega (arith, z, m, a);

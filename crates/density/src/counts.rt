@@ -2,28 +2,21 @@
 ghost use Rattle.std.specs.Prelude.{◌≡◌, ◌≤◌, ◌<◌, ◌^◌, length, get_or, set};
 ghost use Rattle.std.specs.Float.Ieee as Ieee;
 ghost use Rattle.std.specs.Float.{binary64};
-ghost use Rattle.seek.specs.Meaning.{RectRight};
 ghost use Rattle.seek.specs.Enumerate.{area_of};
-ghost use Rattle.density.specs.Meaning.{Steps, windows_of};
+ghost use Rattle.density.specs.Meaning.{windows_of};
 ghost use Rattle.density.specs.Shares.{float};
 ghost use Rattle.density.specs.Counts.{Counts, Counted};
 ghost use Rattle.density.specs.Report.{Reports};
 
-use crate::numbers::{larger, product, smaller};
 use crate::shares::share;
-use crate::windows::{Report, count_windows};
-use seek::Area;
+use crate::windows::{Report, Windows};
 
 // The first n entries become 0.0.
 pub(crate) fn clear(out: &mut [f64], n: usize)
     requires { n ≤ length out.old }
     ensures { Counts out.old out.new n (λ m. 0) }
 {
-    let mut i: usize = 0;
-    while i < n {
-        out[i] = 0.0;
-        i += 1;
-    }
+    out[..n].fill(0.0);
 }
 
 // So many cells more at entry n.
@@ -32,36 +25,31 @@ pub(crate) fn add(out: &mut [f64], n: usize, cells: u64)
     requires cells_bound { cells ≤ 2 ^ 50 }
     ensures { out.new ≡ set out.old n (Ieee.add binary64 (get_or out.old n (float 0)) (float cells)) }
 {
-    out[n] = out[n] + (cells as f64);
+    out[n] += cells as f64;
 }
 
 // Each window's count becomes its share; `t` only states the contract. Lowest starts at a window's cells and highest at 0: no count lies
 // outside, and there is at least one window.
-pub(crate) fn tally(t: &[i32], out: &mut [f64], area: Area, w: u64, h: u64) -> Report
-    requires rect_right { RectRight (area_of area) }
-    requires steps { Steps (area_of area) w h }
-    requires h_in_bounds { windows_of (area_of area) w h ≤ length out.old }
-    requires counted { Counted t.now (area_of area) w h out.old }
-    ensures { Reports t.now (area_of area) w h out.old out.new result }
+pub(crate) fn tally(t: &[i32], out: &mut [f64], windows: Windows) -> Report
+    requires h_in_bounds { windows_of (area_of windows.rect.area) windows.width windows.height ≤ length out.old }
+    requires counted { Counted t.now (area_of windows.rect.area) windows.width windows.height out.old }
+    ensures { Reports t.now (area_of windows.rect.area) windows.width windows.height out.old out.new result }
 {
-    let cells = product(w, h);
-    let count = count_windows(area, w, h);
+    let cells = windows.cells();
+    let count = windows.count() as usize;
     let mut lowest = cells;
     let mut highest: u64 = 0;
-    let mut total: u64 = 0;
-    let mut n: u64 = 0;
-    while n < count {
-        let i = n as usize;
-        let c = out[i] as u64;
-        out[i] = share(c, cells);
-        lowest = smaller(lowest, c);
-        highest = larger(highest, c);
-        total = total + c;
-        n = n + 1;
+    let mut covered = 0;
+    for entry in &mut out[..count] {
+        let c = *entry as u64;
+        *entry = share(c, cells);
+        lowest = lowest.min(c);
+        highest = highest.max(c);
+        covered += c;
     }
     Report {
         lowest: share(lowest, cells),
         highest: share(highest, cells),
-        covered: total,
+        covered,
     }
 }

@@ -1,8 +1,7 @@
-// The density report: how much of each window of an area is metal.
+// The density report: how much of each window of an area is metal. Why `Forms` and `SizeRight` stand as clauses is said in seek's src/lib.rt.
 #![tactic(auto)]
 
 mod counts;
-mod numbers;
 mod reporting;
 mod shares;
 mod spread;
@@ -10,4 +9,4 @@ mod windows;
 
 pub use reporting::report_all;
 pub use shares::Density;
-pub use windows::{Report, count_windows, divides};
+pub use windows::{Report, Windows};

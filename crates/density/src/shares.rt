@@ -2,7 +2,7 @@
 ghost use Rattle.std.specs.Prelude.{◌≡◌, ◌≤◌, ◌^◌};
 ghost use Rattle.density.specs.Shares.{quotient, density_of, share_of};
 
-// How much of one window is metal.
+// How much of one window is metal: the form that 01 names by place.
 #[derive(Clone, Copy)]
 pub enum Density {
     Bare,
@@ -23,12 +23,12 @@ fn density_of(count: u64, cells: u64) -> Density
     ensures { result ≡ density_of count cells }
 {
     if count == 0 {
-        return Density::Bare;
+        Density::Bare
+    } else if count == cells {
+        Density::Filled
+    } else {
+        Density::Share(quotient(count, cells))
     }
-    if count == cells {
-        return Density::Filled;
-    }
-    Density::Share(quotient(count, cells))
 }
 
 // 0.0 for Bare and 1.0 for Filled.
@@ -36,10 +36,9 @@ pub(crate) fn share(count: u64, cells: u64) -> f64
     requires { (count ≤ 2 ^ 50) × (cells ≤ 2 ^ 50) }
     ensures { result ≡ share_of count cells }
 {
-    let d = density_of(count, cells);
-    match d {
+    match density_of(count, cells) {
         Density::Bare => 0.0,
         Density::Filled => 1.0,
-        Density::Share(s) => s,
+        Density::Share(share) => share,
     }
 }

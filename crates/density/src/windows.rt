@@ -1,11 +1,9 @@
-// The windows of an area: whether they divide it, and how many there are; and what a report tells of them.
-ghost use Rattle.std.specs.Prelude.{◌≡◌, ◌↔◌, ◌≤◌, T};
-ghost use Rattle.seek.specs.Meaning.{RectRight};
+// The windows of a rectangle, all of one size, row under row; and what a report tells of them.
+ghost use Rattle.std.specs.Prelude.{◌≡◌, ◌*◌, ◌≤◌, ◌^◌, MatchOption};
 ghost use Rattle.seek.specs.Enumerate.{area_of};
 ghost use Rattle.density.specs.Meaning.{Steps, columns_of, windows_of};
 
-use crate::numbers::product;
-use seek::Area;
+use seek::Rect;
 
 // The lowest and the highest share of a window, and how many cells are covered in all.
 #[derive(Clone, Copy)]
@@ -15,40 +13,53 @@ pub struct Report {
     pub covered: u64,
 }
 
-// Whether windows of width w and height h divide the area's sides.
-pub fn divides(area: Area, w: u64, h: u64) -> bool
-    requires { RectRight (area_of area) }
-    ensures { T result ↔ Steps (area_of area) w h }
-{
-    if w < 1 {
-        return false;
-    }
-    if h < 1 {
-        return false;
-    }
-    if (area.right - area.left) % w != 0 {
-        return false;
-    }
-    if (area.top - area.bottom) % h != 0 {
-        return false;
-    }
-    true
+// Windows that divide the rectangle's sides.
+#[derive(Clone, Copy)]
+pub struct Windows {
+    pub rect: Rect,
+    pub width: u64,
+    pub height: u64,
+    pub ghost divides: { Steps (area_of rect.area) width height },
 }
 
-// How many windows stand side by side.
-pub(crate) fn columns_of(area: Area, w: u64) -> u64
-    requires rect_right { RectRight (area_of area) }
-    requires le_w { 1 ≤ w }
-    ensures { result ≡ columns_of (area_of area) w }
-{
-    (area.right - area.left) / w
-}
+impl Windows {
+    pub fn new(rect: Rect, width: u64, height: u64) -> Option<Windows>
+        ensures { MatchOption result (Steps (area_of rect.area) width height → ⊥) (λ v. (v.rect ≡ rect) × (v.width ≡ width) × (v.height ≡ height)) }
+    {
+        let divides = width >= 1
+            && height >= 1
+            && (rect.area.right - rect.area.left) % width == 0
+            && (rect.area.top - rect.area.bottom) % height == 0;
+        if divides {
+            Some(Windows {
+                rect,
+                width,
+                height,
+            })
+        } else {
+            None
+        }
+    }
 
-// How many windows there are.
-pub fn count_windows(area: Area, w: u64, h: u64) -> u64
-    requires rect_right { RectRight (area_of area) }
-    requires steps { Steps (area_of area) w h }
-    ensures { result ≡ windows_of (area_of area) w h }
-{
-    product((area.top - area.bottom) / h, columns_of(area, w))
+    // How many windows there are.
+    pub fn count(self) -> u64
+        ensures { result ≡ windows_of (area_of self.rect.area) self.width self.height }
+    {
+        (self.rect.area.top - self.rect.area.bottom) / self.height * self.columns()
+    }
+
+    // How many windows stand side by side.
+    pub(crate) fn columns(self) -> u64
+        ensures { result ≡ columns_of (area_of self.rect.area) self.width }
+    {
+        (self.rect.area.right - self.rect.area.left) / self.width
+    }
+
+    // How many cells a window has.
+    pub(crate) fn cells(self) -> u64
+        ensures value { result ≡ self.width * self.height }
+        ensures small { result ≤ 2 ^ 50 }
+    {
+        self.width * self.height
+    }
 }

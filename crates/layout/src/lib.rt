@@ -1,4 +1,4 @@
-// Saved layouts: a table's solids as bytes, and back.
+// Saved layouts: a table's solids as bytes, and back. Why `Forms` and `SizeRight` stand as clauses is said in seek's src/lib.rt.
 #![tactic(auto)]
 
 mod bytes;

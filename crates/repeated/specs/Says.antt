@@ -1,5 +1,6 @@
 -- What the exported functions answer: 01's refusals, and what the last run gave. Assumes nothing.
-use Rattle.std.specs.Prelude.{◌≡◌, ◌≢◌, List, ℕ, ◌*◌, ◌≤◌, ◌<◌, ℤ, Float, length}
+use Rattle.std.specs.Prelude.{◌≡◌, refl, ◌≢◌, List, ℕ, ◌*◌, ◌≤◌, ◌<◌, ℤ, Float, length}
+use Rattle.std.proofs.Common.{arith}
 use Rattle.geometry.specs.Picture.{InPlane}
 use Rattle.table.specs.Words.{records_of}
 use Rattle.table.specs.Sound.{solids_in}
@@ -14,16 +15,10 @@ use Rattle.density.specs.Report.{Reports}
 use Rattle.density.specs.declared.windows.Report.{Report}
 use Rattle.layout.specs.Order.{Saves}
 use Rattle.layout.specs.Bytes.{SAVED}
-use Rattle.repeated.specs.Entry.{Fit, Unfit}
+use Rattle.repeated.specs.Answers.{answered}
+use Rattle.repeated.specs.Entry.{Fit, Unfit, Refuses, refuses}
 use Rattle.repeated.specs.Edit.{CanEdit, MayEdit, Edited}
 use Rattle.repeated.specs.declared.answer.Answer.{Answer}
-
-abbrev pub answered : ℕ → ℕ → Answer
-answered number value = record { number = number; value = value }
-
--- the number alone
-pub data Refuses (t : List ℤ) (a : Answer) : Type 0 where
-  refuses : {number : ℕ} → Unfit t number → a ≡ answered number 0 → Refuses t a
 
 -- a record that holds the cell
 pub data FindSays (t : List ℤ) (x y : ℕ) (a : Answer) : Type 0 where
@@ -86,3 +81,8 @@ pub data SaveSays (t : List ℤ) (old new : List ℕ) (a : Answer) : Type 0 wher
 pub data EditSays (t : List ℤ) (l b r p label : ℕ) (t' : List ℤ) (a : Answer) : Type 0 where
   refused : (number : ℕ) → MayEdit t l b r p label number → number ≢ 0 → a ≡ answered number 0 → t' ≡ t → EditSays t l b r p label t' a
   done : CanEdit t l b r p label → (k : ℕ) → Edited t t' l b r p label k → a ≡ answered 0 k → EditSays t l b r p label t' a
+
+-- what is refused at entry is refused of an edit
+pub unfit_edit : (t : List ℤ) (l b r p label : ℕ) (a : Answer) → Refuses t a → EditSays t l b r p label t a
+unfit_edit t l b r p label a (refuses (Unfit.size h d) e) = EditSays.refused _ (MayEdit.unfit (Unfit.size h d)) (omega (arith, d)) e refl
+unfit_edit t l b r p label a (refuses (Unfit.unsound h f d) e) = EditSays.refused _ (MayEdit.unfit (Unfit.unsound h f d)) (omega (arith, d)) e refl

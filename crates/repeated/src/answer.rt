@@ -1,4 +1,24 @@
-// Answers: 01's numbers by name, and the last run's value beside them.
+// Answers: what the last run gave or why there was none, and the two words by which C is told.
+ghost use Rattle.std.specs.Prelude.{◌≡◌};
+ghost use Rattle.repeated.specs.Answers.{answer_of};
+
+// Why the work is not done. The server has a `Refusal` of its own, whose values stand in its answers: this crate does not rest on it.
+#[derive(Clone, Copy, Debug, PartialEq, Eq)]
+pub enum Refusal {
+    Size,
+    Unsound,
+    Point,
+    Rect,
+    Label,
+    Occupied,
+    Full,
+    Side,
+    // So many places are needed, where that is told.
+    Short(u64),
+    Step,
+}
+
+// 01's number, and the value beside it.
 #[repr(C)]
 #[derive(Clone, Copy)]
 pub struct Answer {
@@ -6,24 +26,23 @@ pub struct Answer {
     pub value: u64,
 }
 
-pub const DONE: u64 = 0;
+impl From<Result<u64, Refusal>> for Answer {
+    ghost from_gives = { λ found answer. answer ≡ answer_of found };
 
-pub const SIZE: u64 = 1;
-
-pub const UNSOUND: u64 = 2;
-
-pub const POINT: u64 = 3;
-
-pub const RECT: u64 = 4;
-
-pub const LABEL: u64 = 5;
-
-pub const OCCUPIED: u64 = 6;
-
-pub const FULL: u64 = 7;
-
-pub const SIDE: u64 = 9;
-
-pub const SHORT: u64 = 10;
-
-pub const STEP: u64 = 13;
+    fn from(found: Result<u64, Refusal>) -> Answer {
+        let (number, value) = match found {
+            Ok(value) => (0, value),
+            Err(Refusal::Size) => (1, 0),
+            Err(Refusal::Unsound) => (2, 0),
+            Err(Refusal::Point) => (3, 0),
+            Err(Refusal::Rect) => (4, 0),
+            Err(Refusal::Label) => (5, 0),
+            Err(Refusal::Occupied) => (6, 0),
+            Err(Refusal::Full) => (7, 0),
+            Err(Refusal::Side) => (9, 0),
+            Err(Refusal::Short(places)) => (10, places),
+            Err(Refusal::Step) => (13, 0),
+        };
+        Answer { number, value }
+    }
+}

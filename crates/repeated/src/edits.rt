@@ -1,88 +1,67 @@
 // Create, and delete what was created, again and again.
+ghost use Rattle.std.specs.Prelude.{MatchResult, Err};
+ghost use Rattle.repeated.specs.Answers.{answer_of};
 ghost use Rattle.repeated.specs.Says.{EditSays};
-ghost use Rattle.repeated.specs.Edit.{CanEdit, MayEdit, Edited};
+ghost use Rattle.repeated.specs.Edit.{CanEdit, Edited};
 
-use crate::answer::{Answer, DONE, FULL, LABEL, OCCUPIED, RECT};
-use crate::entry::{Entry, enter};
-use crate::find::hint;
+use crate::answer::{Answer, Refusal};
+use crate::entry::enter;
+use crate::often::often;
 use crate::search::search_from;
 use edit::create::create;
 use edit::delete::delete;
 use geometry::Paint;
-use seek::Area;
+use seek::{Area, Rect};
 use table::numbers::{SOLID, WORDS, ZERO};
 
-// Why the solid cannot be created, or DONE.
-fn may_edit(t: &[i32], left: u64, bottom: u64, right: u64, top: u64, label: u64) -> u64
-    ensures { MayEdit t.now left bottom right top label result }
+// Whether the solid can be created.
+fn may_edit(t: &[i32], area: Area, label: u64) -> Result<(), Refusal>
+    ensures { MatchResult result
+        (λ _. CanEdit t.now area.left area.bottom area.right area.top label)
+        (λ why. EditSays t.now area.left area.bottom area.right area.top label t.now (answer_of (Err why))) }
 {
-    let Entry { number, solids } = enter(t);
-    if number != DONE {
-        return number;
-    }
-    let area = Area {
-        left,
-        bottom,
-        right,
-        top,
+    let solids = enter(t)?;
+    let Some(rect) = Rect::new(area) else {
+        return Err(Refusal::Rect);
     };
-    if seek::rect_right(area) {
-        if label <= ZERO {
-            return LABEL;
-        }
-        if label >= WORDS {
-            return LABEL;
-        }
-        let k = search_from(t, hint(0, 0), left, bottom, right, top);
-        if k < table::records(t) {
-            return OCCUPIED;
-        }
-        if solids < table::capacity(t) {
-            return DONE;
-        }
-        return FULL;
+    if label <= ZERO || label >= WORDS {
+        return Err(Refusal::Label);
     }
-    RECT
+    let Ok(_) = search_from(t, ZERO, rect) else {
+        return Err(Refusal::Occupied);
+    };
+    if solids < table::capacity(t) {
+        Ok(())
+    } else {
+        Err(Refusal::Full)
+    }
 }
 
-fn edit_from(
-    t: &mut [i32],
-    hint: u64,
-    left: u64,
-    bottom: u64,
-    right: u64,
-    top: u64,
-    label: u64,
-) -> usize
-    requires { CanEdit t.old left bottom right top label }
-    ensures { Edited t.old t.new left bottom right top label result }
+fn edit_from(t: &mut [i32], hint: u64, area: Area, label: u64) -> usize
+    requires { CanEdit t.old area.left area.bottom area.right area.top label }
+    ensures { Edited t.old t.new area.left area.bottom area.right area.top label result }
 {
     let from = seek::start(t, hint);
     let ink = Paint { kind: SOLID, label };
-    let k = create(t, from, from, left, bottom, right, top, ink);
+    let k = create(t, from, from, area, ink);
     delete(t, k);
     k
 }
 
-fn edit_often(
-    t: &mut [i32],
-    left: u64,
-    bottom: u64,
-    right: u64,
-    top: u64,
-    label: u64,
-    times: u32,
-) -> usize
-    requires { CanEdit t.old left bottom right top label }
-    ensures { Edited t.old t.new left bottom right top label result }
+fn edit_often(t: &mut [i32], area: Area, label: u64, times: u32) -> usize
+    requires { CanEdit t.old area.left area.bottom area.right area.top label }
+    ensures { Edited t.old t.new area.left area.bottom area.right area.top label result }
 {
-    let mut k = edit_from(t, hint(0, 0), left, bottom, right, top, label);
-    let mut n: u32 = 0;
-    while n < times {
-        n += 1;
-        k = edit_from(t, hint(0, n), left, bottom, right, top, label);
-    }
-    k
+    let mut run = |hint| edit_from(t, hint, area, label);
+    often(0, times, &mut run)
+}
+
+fn edited(t: &mut [i32], area: Area, label: u64, times: u32) -> Result<u64, Refusal>
+    ensures { EditSays t.old area.left area.bottom area.right area.top label t.new (answer_of result) }
+{
+    may_edit(t, area, label)?;
+    let k = edit_often(t, area, label, times);
+    Ok(k as u64)
 }
 
 #[unsafe(no_mangle)]
@@ -97,13 +76,11 @@ pub extern "C" fn rep_edit(
 ) -> Answer
     ensures { EditSays t.old left bottom right top label t.new result }
 {
-    let number = may_edit(t, left, bottom, right, top, label);
-    if number != DONE {
-        return Answer { number, value: 0 };
-    }
-    let k = edit_often(t, left, bottom, right, top, label, times);
-    Answer {
-        number: DONE,
-        value: k as u64,
-    }
+    let area = Area {
+        left,
+        bottom,
+        right,
+        top,
+    };
+    edited(t, area, label, times).into()
 }

@@ -1,33 +1,14 @@
 // What is asked once, before the work: that the table is sound.
 ghost use Rattle.repeated.specs.Entry.{Enters};
 
-use crate::answer::{DONE, SIZE, UNSOUND};
+use crate::answer::Refusal;
 
-// The number of what is wrong with the table, or DONE, and then how many solids it has.
-#[derive(Clone, Copy)]
-pub struct Entry {
-    pub number: u64,
-    pub solids: usize,
-}
-
-pub(crate) fn enter(t: &[i32]) -> Entry
-    ensures { Enters t.now result.number result.solids }
+// How many solids the table has, or what is wrong with it. The server's `admit` says as much: this crate does not rest on the calls that it measures.
+pub(crate) fn enter(t: &[i32]) -> Result<usize, Refusal>
+    ensures { Enters t.now result }
 {
-    if table::size_right(t) {
-        let v = sound::check(t);
-        if v.sound {
-            return Entry {
-                number: DONE,
-                solids: v.solids,
-            };
-        }
-        return Entry {
-            number: UNSOUND,
-            solids: 0,
-        };
+    if !table::size_right(t) {
+        return Err(Refusal::Size);
     }
-    Entry {
-        number: SIZE,
-        solids: 0,
-    }
+    sound::check(t).ok_or(Refusal::Unsound)
 }

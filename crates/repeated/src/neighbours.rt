@@ -1,18 +1,19 @@
 // A tile's neighbours, again and again: the tile is found, they are counted, and where there is room they are listed.
-ghost use Rattle.geometry.specs.Picture.{InPlane};
 ghost use Rattle.repeated.specs.Entry.{Fit};
+ghost use Rattle.repeated.specs.Answers.{answer_of};
 ghost use Rattle.repeated.specs.Says.{NeighboursSays, SideListed};
 
-use crate::answer::{Answer, DONE, POINT, SHORT, SIDE};
-use crate::entry::{Entry, enter};
-use crate::find::{find_from, hint};
+use crate::answer::{Answer, Refusal};
+use crate::cell::Cell;
+use crate::entry::enter;
+use crate::find::find_from;
+use crate::often::often;
 
-fn list_from(t: &[i32], hint: u64, x: u64, y: u64, side: usize, list: &mut [i32]) -> usize
-    requires fit { Fit t.now }
-    requires in_plane { InPlane x y }
-    ensures { SideListed t.now x y side list.old list.new result }
+fn list_from(t: &[i32], hint: u64, cell: Cell, side: usize, list: &mut [i32]) -> usize
+    requires { Fit t.now }
+    ensures { SideListed t.now cell.x cell.y side list.old list.new result }
 {
-    let i = find_from(t, hint, x, y);
+    let i = find_from(t, hint, cell);
     let n = seek::count_side(t, i, side);
     if n <= list.len() {
         seek::list_side(t, i, side, list);
@@ -20,36 +21,38 @@ fn list_from(t: &[i32], hint: u64, x: u64, y: u64, side: usize, list: &mut [i32]
     n
 }
 
-fn list_often(t: &[i32], x: u64, y: u64, side: usize, list: &mut [i32], times: u32) -> usize
-    requires fit { Fit t.now }
-    requires in_plane { InPlane x y }
-    ensures { SideListed t.now x y side list.old list.new result }
+fn list_often(t: &[i32], cell: Cell, side: usize, list: &mut [i32], times: u32) -> usize
+    requires { Fit t.now }
+    ensures { SideListed t.now cell.x cell.y side list.old list.new result }
 {
-    let mut k = list_from(t, hint(0, 0), x, y, side, list);
-    let mut n: u32 = 0;
-    while n < times {
-        n += 1;
-        k = list_from(t, hint(0, n), x, y, side, list);
-    }
-    k
+    let mut run = |hint| list_from(t, hint, cell, side, list);
+    often(0, times, &mut run)
 }
 
 // Where the list is too short, that is seen after the runs, which have left it as it was.
-fn list_sound(t: &[i32], x: u64, y: u64, side: usize, list: &mut [i32], times: u32) -> Answer
-    requires fit { Fit t.now }
-    requires in_plane { InPlane x y }
-    ensures { NeighboursSays t.now x y side list.old list.new result }
+fn listed(
+    t: &[i32],
+    x: u64,
+    y: u64,
+    side: usize,
+    list: &mut [i32],
+    times: u32,
+) -> Result<u64, Refusal>
+    ensures { NeighboursSays t.now x y side list.old list.new (answer_of result) }
 {
+    enter(t)?;
+    if side > 3 {
+        return Err(Refusal::Side);
+    }
+    let Some(cell) = Cell::new(x, y) else {
+        return Err(Refusal::Point);
+    };
     let room = list.len();
-    let k = list_often(t, x, y, side, list, times);
-    let mut number = DONE;
-    if room < k {
-        number = SHORT;
+    let n = list_often(t, cell, side, list, times);
+    if room < n {
+        return Err(Refusal::Short(n as u64));
     }
-    Answer {
-        number,
-        value: k as u64,
-    }
+    Ok(n as u64)
 }
 
 #[unsafe(no_mangle)]
@@ -63,21 +66,5 @@ pub extern "C" fn rep_neighbours(
 ) -> Answer
     ensures { NeighboursSays t.now x y side list.old list.new result }
 {
-    let Entry { number, .. } = enter(t);
-    if number != DONE {
-        return Answer { number, value: 0 };
-    }
-    if side > 3 {
-        return Answer {
-            number: SIDE,
-            value: 0,
-        };
-    }
-    if table::in_plane(x, y) {
-        return list_sound(t, x, y, side, list, times);
-    }
-    Answer {
-        number: POINT,
-        value: 0,
-    }
+    listed(t, x, y, side, list, times).into()
 }

@@ -1,65 +1,61 @@
 // The density report, again and again.
 ghost use Rattle.std.specs.Prelude.{◌≤◌, length};
-ghost use Rattle.seek.specs.Meaning.{RectRight};
 ghost use Rattle.seek.specs.Enumerate.{area_of};
-ghost use Rattle.density.specs.Meaning.{Steps, windows_of};
+ghost use Rattle.density.specs.Meaning.{windows_of};
 ghost use Rattle.density.specs.Report.{Reports};
 ghost use Rattle.repeated.specs.Entry.{Fit};
+ghost use Rattle.repeated.specs.Answers.{answer_of};
 ghost use Rattle.repeated.specs.Says.{DensitySays};
 
-use crate::answer::{Answer, DONE, RECT, SHORT, STEP};
-use crate::entry::{Entry, enter};
-use crate::find::hint;
-use density::Report;
-use seek::Area;
+use crate::answer::{Answer, Refusal};
+use crate::entry::enter;
+use crate::often::often;
+use density::{Report, Windows};
+use seek::{Area, Rect};
 
 // One report, from the record that the hint names.
-fn density_from(t: &[i32], hint: u64, out: &mut [f64], area: Area, w: u64, h: u64) -> Report
+fn density_from(t: &[i32], hint: u64, out: &mut [f64], windows: Windows) -> Report
     requires fit { Fit t.now }
-    requires rect_right { RectRight (area_of area) }
-    requires steps { Steps (area_of area) w h }
-    requires h_in_bounds { windows_of (area_of area) w h ≤ length out.old }
-    ensures { Reports t.now (area_of area) w h out.old out.new result }
+    requires windows_in_bounds { windows_of (area_of windows.rect.area) windows.width windows.height ≤ length out.old }
+    ensures { Reports t.now (area_of windows.rect.area) windows.width windows.height out.old out.new result }
 {
     let from = seek::start(t, hint);
-    density::report_all(t, out, from, area, w, h)
+    density::report_all(t, out, from, windows)
 }
 
-fn density_often(t: &[i32], out: &mut [f64], area: Area, w: u64, h: u64, times: u32) -> Report
+fn density_often(t: &[i32], out: &mut [f64], windows: Windows, times: u32) -> Report
     requires fit { Fit t.now }
-    requires rect_right { RectRight (area_of area) }
-    requires steps { Steps (area_of area) w h }
-    requires h_in_bounds { windows_of (area_of area) w h ≤ length out.old }
-    ensures { Reports t.now (area_of area) w h out.old out.new result }
+    requires windows_in_bounds { windows_of (area_of windows.rect.area) windows.width windows.height ≤ length out.old }
+    ensures { Reports t.now (area_of windows.rect.area) windows.width windows.height out.old out.new result }
 {
-    let mut r = density_from(t, hint(0, 0), out, area, w, h);
-    let mut n: u32 = 0;
-    while n < times {
-        n += 1;
-        r = density_from(t, hint(0, n), out, area, w, h);
-    }
-    r
+    let mut run = |hint| density_from(t, hint, out, windows);
+    often(0, times, &mut run)
 }
 
-// 10, then the runs: the windows divide the area.
-fn density_sound(t: &[i32], out: &mut [f64], area: Area, w: u64, h: u64, times: u32) -> Answer
-    requires fit { Fit t.now }
-    requires rect_right { RectRight (area_of area) }
-    requires steps { Steps (area_of area) w h }
-    ensures { DensitySays t.now (area_of area) w h out.old out.new result }
+// Where the slice is too short, that is seen before the runs.
+fn reported(
+    t: &[i32],
+    area: Area,
+    w: u64,
+    h: u64,
+    out: &mut [f64],
+    times: u32,
+) -> Result<u64, Refusal>
+    ensures { DensitySays t.now (area_of area) w h out.old out.new (answer_of result) }
 {
-    let windows = density::count_windows(area, w, h);
-    if (out.len() as u64) < windows {
-        return Answer {
-            number: SHORT,
-            value: windows,
-        };
+    enter(t)?;
+    let Some(rect) = Rect::new(area) else {
+        return Err(Refusal::Rect);
+    };
+    let Some(windows) = Windows::new(rect, w, h) else {
+        return Err(Refusal::Step);
+    };
+    let count = windows.count();
+    if (out.len() as u64) < count {
+        return Err(Refusal::Short(count));
     }
-    density_often(t, out, area, w, h, times);
-    Answer {
-        number: DONE,
-        value: windows,
-    }
+    density_often(t, out, windows, times);
+    Ok(count)
 }
 
 #[unsafe(no_mangle)]
@@ -76,27 +72,11 @@ pub extern "C" fn rep_density(
 ) -> Answer
     ensures { DensitySays t.now (record { left = left; bottom = bottom; right = right; top = top }) w h out.old out.new result }
 {
-    let Entry { number, .. } = enter(t);
-    if number != DONE {
-        return Answer { number, value: 0 };
-    }
     let area = Area {
         left,
         bottom,
         right,
         top,
     };
-    if seek::rect_right(area) {
-        if density::divides(area, w, h) {
-            return density_sound(t, out, area, w, h, times);
-        }
-        return Answer {
-            number: STEP,
-            value: 0,
-        };
-    }
-    Answer {
-        number: RECT,
-        value: 0,
-    }
+    reported(t, area, w, h, out, times).into()
 }

@@ -1,53 +1,44 @@
 // Area search, again and again.
-ghost use Rattle.seek.specs.Meaning.{RectRight};
+ghost use Rattle.seek.specs.Enumerate.{area_of};
+ghost use Rattle.seek.specs.Search.{Searches};
 ghost use Rattle.repeated.specs.Entry.{Fit};
-ghost use Rattle.repeated.specs.Says.{SearchSays, Sees};
+ghost use Rattle.repeated.specs.Answers.{answer_of};
+ghost use Rattle.repeated.specs.Says.{SearchSays};
 
-use crate::answer::{Answer, DONE, RECT};
-use crate::entry::{Entry, enter};
-use crate::find::hint;
-use seek::{Area, Seen};
+use crate::answer::{Answer, Refusal};
+use crate::entry::enter;
+use crate::often::often;
+use seek::{Area, Met, Rect};
 
-// One search, from the record that the hint names: the record of the first solid, or a number past the records.
-pub(crate) fn search_from(
-    t: &[i32],
-    hint: u64,
-    left: u64,
-    bottom: u64,
-    right: u64,
-    top: u64,
-) -> usize
-    requires fit { Fit t.now }
-    requires rect_right { RectRight (record { left = left; bottom = bottom; right = right; top = top }) }
-    ensures { Sees t.now (record { left = left; bottom = bottom; right = right; top = top }) result }
+// One search, from the record that the hint names.
+pub(crate) fn search_from(t: &[i32], hint: u64, rect: Rect) -> Result<usize, Met>
+    requires { Fit t.now }
+    ensures { Searches t.now (area_of rect.area) result }
 {
     let from = seek::start(t, hint);
-    match seek::search(t, from, left, bottom, right, top) {
-        Seen::Nothing(_) => table::records(t),
-        Seen::Solid(i, _, _) => i,
-    }
+    seek::search(t, from, rect)
 }
 
-fn search_often(
-    t: &[i32],
-    left: u64,
-    bottom: u64,
-    right: u64,
-    top: u64,
-    from: u32,
-    times: u32,
-) -> usize
-    requires fit { Fit t.now }
-    requires rect_right { RectRight (record { left = left; bottom = bottom; right = right; top = top }) }
-    ensures { Sees t.now (record { left = left; bottom = bottom; right = right; top = top }) result }
+fn search_often(t: &[i32], rect: Rect, from: u32, times: u32) -> Result<usize, Met>
+    requires { Fit t.now }
+    ensures { Searches t.now (area_of rect.area) result }
 {
-    let mut k = search_from(t, hint(from, 0), left, bottom, right, top);
-    let mut n: u32 = 0;
-    while n < times {
-        n += 1;
-        k = search_from(t, hint(from, n), left, bottom, right, top);
+    let mut run = |hint| search_from(t, hint, rect);
+    often(from, times, &mut run)
+}
+
+// Where nothing is met, C is told the number of the records.
+fn searched(t: &[i32], area: Area, from: u32, times: u32) -> Result<u64, Refusal>
+    ensures { SearchSays t.now (area_of area) (answer_of result) }
+{
+    enter(t)?;
+    let Some(rect) = Rect::new(area) else {
+        return Err(Refusal::Rect);
+    };
+    match search_often(t, rect, from, times) {
+        Ok(_) => Ok(table::records(t) as u64),
+        Err(met) => Ok(met.tile as u64),
     }
-    k
 }
 
 #[unsafe(no_mangle)]
@@ -62,25 +53,11 @@ pub extern "C" fn rep_search(
 ) -> Answer
     ensures { SearchSays t.now (record { left = left; bottom = bottom; right = right; top = top }) result }
 {
-    let Entry { number, .. } = enter(t);
-    if number != DONE {
-        return Answer { number, value: 0 };
-    }
     let area = Area {
         left,
         bottom,
         right,
         top,
     };
-    if seek::rect_right(area) {
-        let k = search_often(t, left, bottom, right, top, from, times);
-        return Answer {
-            number: DONE,
-            value: k as u64,
-        };
-    }
-    Answer {
-        number: RECT,
-        value: 0,
-    }
+    searched(t, area, from, times).into()
 }

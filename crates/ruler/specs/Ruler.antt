@@ -90,12 +90,10 @@ minus_half n = go (ltb n 2147483648)
 abbrev pub bits : ℕ → ℕ
 bits n = (n + 2147483648) % 4294967296
 
-pub plus_whole : (x : ℤ) → SFits w32 x → x +ℤ pos 4294967296 ≡ pos (ruler x + 2147483648)
+pub bits_of : (x : ℤ) → SFits w32 x → of_z w32 x ≡ bits (ruler x)
 unfolding ruler
-plus_whole (pos n) f = ap pos (omega arith)
-plus_whole (negsuc n) f =
-    ap (λ (b : Bool). cond b (negsuc (suc n - 4294967297)) (pos (4294967296 - suc n))) (le-ltb 4294967296 (suc n) (omega arith))
-    ∙ ap pos (omega arith)
+bits_of (pos n) f = omega (arith, f.sfits)
+bits_of (negsuc n) f = omega (arith, f.sfits)
 
 -- a word as a length: itself, and 0 where it is below 0
 unfoldable pub length_of : ℤ → ℕ

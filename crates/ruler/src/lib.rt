@@ -1,4 +1,4 @@
-// The ruler: a word, an i32, as the natural number that is 2^31 more.
+// The ruler: a word, an i32, as the natural number that is 2^31 more. Functions and no `From`: both types are the language's own.
 #![tactic(auto)]
 
 ghost use Rattle.std.specs.Prelude.{◌≡◌, ◌<◌, ◌^◌, pos};
@@ -15,8 +15,7 @@ pub fn at(x: i32) -> u64
 pub fn bits(x: i32) -> u64
     ensures { result ≡ bits (ruler x) }
 {
-    let wide = x as i64;
-    (wide + 4294967296) as u64 % 4294967296
+    x.cast_unsigned() as u64
 }
 
 pub fn word_at(n: u64) -> i32
@@ -35,7 +34,7 @@ pub fn count(n: u64) -> i32
     n as i32
 }
 
-// A count as a word of 64 bits.
+// A count as a word of 64 bits. A cast names its type, so that one function for both would need a trait of casts.
 pub fn long_count(n: u64) -> i64
     requires { n < 2 ^ 63 }
     ensures { result ≡ pos n }
@@ -47,9 +46,5 @@ pub fn long_count(n: u64) -> i64
 pub fn length(x: i32) -> u64
     ensures { result ≡ length_of x }
 {
-    let n = at(x);
-    if n < 2147483648 {
-        return 0;
-    }
-    n - 2147483648
+    at(x).saturating_sub(2147483648)
 }

@@ -7,7 +7,7 @@ use Rattle.seek.specs.Meaning.{Area, Tree, Directed}
 use Rattle.seek.specs.Once.{directed_short}
 use Rattle.seek.specs.Order.{directed_one}
 use Rattle.seek.specs.Writing.{Writes, CountOf, count_one}
-use Rattle.seek.specs.declared.directed.Area as Given
+use Rattle.seek.specs.declared.area.Area as Given
 
 -- the area with these edges
 abbrev pub edges : ℕ → ℕ → ℕ → ℕ → Area

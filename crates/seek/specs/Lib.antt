@@ -1,5 +1,6 @@
 -- What looking things up means, and laws of the walks that do it: the reader's pages are Meaning, Neighbours and Find.
 pub mod Find
+pub mod Legs
 pub mod Start
 pub mod Neighbours
 pub mod Sides
@@ -14,6 +15,7 @@ pub mod Order
 pub mod Each
 pub mod Writing
 pub mod Enumerate
+pub mod Passing
 pub mod Trees
 pub mod RightSide
 pub mod Subtree

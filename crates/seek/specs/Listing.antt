@@ -1,5 +1,5 @@
 -- What counting and listing the neighbours of a tile on a side give, and how far their loops have come. Assumes nothing.
-use Rattle.std.specs.Prelude.{◌≡◌, refl, true, false, List, ℕ, ◌+◌, ◌≤◌, ◌<◌, ℤ, length, get_or, set}
+use Rattle.std.specs.Prelude.{◌≡◌, refl, Option, Some, None, List, ℕ, ◌+◌, ◌≤◌, ◌<◌, ℤ, length, get_or, set}
 use Rattle.std.proofs.Common.{sym, ◌∙◌, subst, arith, length-set, ext_get_or, get_or-set_same, get_or-set_other}
 use Rattle.std.proofs.Math.Path.{ap}
 use Rattle.std.proofs.Math.IntN.{pos}
@@ -91,40 +91,45 @@ module _ (t : List ℤ) (f : Forms t) (z : SizeRight t) (s : Side) (i : ℕ) (u 
   unfolding starts
   listing_starts w old b h = record { counting = starts h.list w h.are b; room = h.fits; written = written_none h.list old }
 
-  module _ (n : ℕ) (w : Walk) (c : Counting t s i n w) (m : w.more ≡ true) where
+  module _ (n : ℕ) (w : Walk) (c : Counting t s i n w) (k : ℕ) (m : w.at ≡ Some k) where
     pub counting_goes : Goes t w
-    counting_goes = record { side = s; of = i; list = c.list; count = n; used = u; are = c.are; place = c.place; more = m }
+    counting_goes = record { side = s; of = i; list = c.list; count = n; used = u; are = c.are; place = c.place; at = k; stands = m }
 
     pub counting_short : n < HIGH
-    counting_short = place_short t f z s i u c.list n w c.are c.place m
+    counting_short = place_short t f z s i u c.list n w c.are c.place k m
 
-    pub counting_below : w.at < ZERO
-    counting_below = omega (arith, at_below t f z s i u c.list n w c.are c.place m, z.most)
+    pub counting_below : k < ZERO
+    counting_below = omega (arith, at_below t f z s i u c.list n w c.are c.place k m, z.most)
 
     pub counting_on : (w' : Walk) → Steps t w w' → Counting t s i (n + 1) w'
     unfolding Steps
     counting_on w' h = record { list = c.list; are = c.are; place = h s i c.list n u c.are c.place }
 
-    pub listing_room : (old new : List ℤ) → length c.list ≤ length old → Written c.list n old new → n < length new
-    listing_room old new room written = omega (arith, (c.place.here m).below, written.same_length)
-
-    pub listing_on : (w' : Walk) (old new : List ℤ) (x : ℤ) → Steps t w w' → length c.list ≤ length old → Written c.list n old new → x ≡ pos w.at
+    pub listing_on : (w' : Walk) (old new : List ℤ) (x : ℤ) → Steps t w w' → length c.list ≤ length old → Written c.list n old new → x ≡ pos k
         → Listing t s i (n + 1) w' old (set new n x)
     unfolding counting_on
     listing_on w' old new x h room written e =
-        let p = c.place.here m in
+        let p = c.place.here k m in
         record {
           counting = counting_on w' h;
           room = room;
           written = written_more c.list n old new x (omega (arith, p.below, room)) (e ∙ ap pos p.is) written;
         }
 
-  pub counting_ends : (n : ℕ) (w : Walk) → Counting t s i n w → w.more ≡ false → Counts t s i n
+  pub counting_ends : (n : ℕ) (w : Walk) → Counting t s i n w → w.at ≡ None → Counts t s i n
   counting_ends n w c m = record { list = c.list; are = c.are; count = c.place.done m }
 
-  pub listing_ends : (n : ℕ) (w : Walk) (old new : List ℤ) → Listing t s i n w old new → w.more ≡ false → Lists t s i old new
+  pub listing_ends : (n : ℕ) (w : Walk) (old new : List ℤ) → Listing t s i n w old new → w.at ≡ None → Lists t s i old new
   listing_ends n w old new l m = record {
     list = l.counting.list;
     are = l.counting.are;
     written = subst (λ n. Written l.counting.list n old new) (l.counting.place.done m) l.written;
   }
+
+  -- the entries are all written
+  pub listing_full : (n : ℕ) (w : Walk) (old new : List ℤ) → Listing t s i n w old new → length old ≤ n → Lists t s i old new
+  listing_full n w old new l h = listing_ends n w old new l (ended w.at refl)
+    where
+      ended : (at : Option ℕ) → w.at ≡ at → w.at ≡ None
+      ended (Some k) e = absurd (omega (arith, (l.counting.place.here k e).below, l.room))
+      ended None e = e

@@ -1,5 +1,5 @@
 -- The tiles of an area in a queue: each stands once in the list, and those that hang under it come behind all that stand there already. Assumes nothing.
-use Rattle.std.specs.Prelude.{◌≡◌, refl, ◌⊎◌, true, List, ℕ, zero, suc, ◌+◌, ◌-◌, ◌≤◌, ◌<◌, ◌^◌, ℤ, pos, length, get_or, set, take}
+use Rattle.std.specs.Prelude.{◌≡◌, refl, ◌⊎◌, Some, List, ℕ, zero, suc, ◌+◌, ◌-◌, ◌≤◌, ◌<◌, ◌^◌, ℤ, pos, length, get_or, set, take}
 use Rattle.std.proofs.Common.{sym, ap, ◌∙◌, subst, inl, inr, ⊎_elim, arith, length-set, length-take-le, get_or-set_same, get_or-set_other, get_or-take}
 use Rattle.ruler.specs.Ruler.{ruler, bits, ruler_pos}
 use Rattle.geometry.specs.Cases.{lt_cases}
@@ -9,12 +9,12 @@ use Rattle.table.specs.Sound.{SizeRight, UsedIn}
 use Rattle.table.specs.Forms.{Forms}
 use Rattle.seek.specs.Meaning.{Area, RectRight, Meets, Root, Hangs}
 use Rattle.seek.specs.Find.{Finds}
-use Rattle.seek.specs.Walk.{Begins}
+use Rattle.seek.specs.Walk.{Begins, Goes}
 use Rattle.seek.specs.Lists.{Passed}
 use Rattle.seek.specs.Hanging.{formed, hangs_beside, parent_one}
 use Rattle.seek.specs.Order.{parent}
 use Rattle.seek.specs.Each.{Each, each_none, each_same, each_more, each_short}
-use Rattle.seek.specs.RightSide.{Walking, Met, Onward, walking_starts, walking_at, walking_after}
+use Rattle.seek.specs.RightSide.{Walking, Met, Onward, Follows, Floor, left_of_walk, walking_starts, walking_at, walking_goes, walking_after, walking_hangs, walking_hangs_not, walking_on, walking_falls}
 use Rattle.seek.specs.Roots.{RootMet, next_root, no_other_root}
 use Rattle.seek.specs.declared.side.Walk.{Walk}
 
@@ -195,45 +195,63 @@ module _ (t : List ℤ) (f : Forms t) (A : Area) (list₀ : List ℤ) (i n₀ : 
         each_short _ n (named list) g.are (records_of t)
         (λ k. ⊎_elim (λ r. (reached_meets t A (named list₀) i k r).used.below) (λ h. h.is.meets.used.below))
 
-    module _ (e : w.more ≡ true) (w' : Walk) (o : Onward g.walk w') (z : SizeRight t) where
-      here : w.at < records_of t
-      here = (walking_at t f A p meets w g.walk e).used.below
+    pub queueing_room : n < length list
+    queueing_room = omega (arith, queueing_short, q.room, g.long)
 
-      queueing_room : n < length list
-      queueing_room = omega (arith, queueing_short, q.room, g.long)
+    module _ (at : ℕ) (e : w.at ≡ Some at) (w' : Walk) (o : Onward g.walk at w') (z : SizeRight t) where
+      here : at < records_of t
+      here = (walking_at t f A p meets w g.walk at e).used.below
 
-      kept : (m : ℕ) → m < n₀ → named (put list n w.at) m ≡ named list₀ m
-      kept m h = put_other list n w.at m (omega (arith, g.more)) ∙ g.kept m h
+      kept : (m : ℕ) → m < n₀ → named (put list n at) m ≡ named list₀ m
+      kept m h = put_other list n at m (omega (arith, g.more)) ∙ g.kept m h
 
       -- what the walk has met is not met again
-      met_not : Met g.walk w.at → ⊥
-      met_not m = omega (arith, walking_after t f A p meets w g.walk e w.at m, formed t f w.at (walking_at t f A p meets w g.walk e).used)
+      met_not : Met g.walk at → ⊥
+      met_not m = omega (arith, walking_after t f A p meets w g.walk at e at m, formed t f at (walking_at t f A p meets w g.walk at e).used)
 
-      pub queueing_pass : (Hangs t A p w.at → ⊥) → Queueing t A list₀ i n₀ (put list n w.at) n w'
+      pub queueing_pass : (Hangs t A p at → ⊥) → Queueing t A list₀ i n₀ (put list n at) n w'
       queueing_pass not = record {
         walk = o.walk;
-        long = length-set list n (pos w.at) ∙ g.long;
+        long = length-set list n (pos at) ∙ g.long;
         more = g.more;
         kept = kept;
-        are = each_same _ _ n (named list) (named (put list n w.at))
+        are = each_same _ _ n (named list) (named (put list n at))
             (λ k. ⊎_elim (λ r. inl r) (λ h. inr (record { is = h.is; met = o.grows k h.met })))
             (λ k. ⊎_elim (λ r. inl r) (λ h. inr (record { is = h.is; met = ⊎_elim (λ m. m) (λ d. absurd (not (subst (Hangs t A p) d h.is))) (o.no_other k h.met) })))
-            (put_other list n w.at) g.are;
+            (put_other list n at) g.are;
       }
 
-      pub queueing_more : Hangs t A p w.at → Queueing t A list₀ i n₀ (put list n w.at) (n + 1) w'
+      pub queueing_more : Hangs t A p at → Queueing t A list₀ i n₀ (put list n at) (n + 1) w'
       queueing_more hangs = record {
         walk = o.walk;
-        long = length-set list n (pos w.at) ∙ g.long;
+        long = length-set list n (pos at) ∙ g.long;
         more = omega (arith, g.more);
         kept = kept;
-        are = each_more _ _ n w.at (named list) (named (put list n w.at)) g.are (put_other list n w.at)
-            (put_here list n w.at queueing_room (omega (arith, here, z.most)))
+        are = each_more _ _ n at (named list) (named (put list n at)) g.are (put_other list n at)
+            (put_here list n at queueing_room (omega (arith, here, z.most)))
             (λ k. ⊎_elim (λ r. inl r) (λ h. inr (record { is = h.is; met = o.grows k h.met })))
             (inr (record { is = hangs; met = o.here }))
             (λ k. ⊎_elim (λ r. inl (inl r)) (λ h. ⊎_elim (λ m. inl (inr (record { is = h.is; met = m }))) (λ d. inr d) (o.no_other k h.met)))
-            (⊎_elim (λ r. reached_not w.at r hangs) (λ h. met_not h.met));
+            (⊎_elim (λ r. reached_not at r hangs) (λ h. met_not h.met));
       }
+
+    -- a turn of the loop: the tile's row tells whether it hangs under the entry
+    module _ (at : ℕ) (e : w.at ≡ Some at) where
+      pub queueing_goes : Goes t w
+      queueing_goes = walking_goes t f A p meets w g.walk at e
+
+      module _ (w' : Walk) (s : Follows t A.bottom w w') where
+        pub queueing_falls : left_of_walk t w' < left_of_walk t w
+        queueing_falls = walking_falls t f A p meets w g.walk at e w' s
+
+        module _ (z : SizeRight t) (floor : ℕ) (h : Floor t p A.bottom floor) where
+          pub queueing_outside : ((floor ≤ num t at BOTTOM) × (num t at BOTTOM < A.top) → ⊥) → Queueing t A list₀ i n₀ (put list n at) n w'
+          queueing_outside miss =
+              queueing_pass at e w' (walking_on t f A p meets w g.walk at e w' s) z (λ k. miss (walking_hangs_not t f A p meets w g.walk at e floor h k))
+
+          pub queueing_inside : num t p RIGHT < A.right → (floor ≤ num t at BOTTOM) × (num t at BOTTOM < A.top)
+              → Queueing t A list₀ i n₀ (put list n at) (n + 1) w'
+          queueing_inside r (l, u) = queueing_more at e w' (walking_on t f A p meets w g.walk at e w' s) z (walking_hangs t f A p meets w g.walk at e floor h r l u)
 
 -- ---- in the end all tiles of the area are reached
 

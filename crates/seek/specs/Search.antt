@@ -1,6 +1,6 @@
 -- What area search answers, row by row from the top, and that its answer is determined. Assumes nothing.
-use Rattle.std.specs.Prelude.{◌≡◌, List, ◌≢◌, ℕ, ◌-◌, ◌≤◌, ◌<◌, ℤ}
-use Rattle.std.proofs.Common.{sym, subst, subst₂, arith}
+use Rattle.std.specs.Prelude.{◌≡◌, List, ◌≢◌, ℕ, ◌-◌, ◌≤◌, ◌<◌, ℤ, MatchResult, Result}
+use Rattle.std.proofs.Common.{sym, subst, arith}
 use Rattle.geometry.specs.Cases.{lt_cases}
 use Rattle.geometry.specs.Picture.{SOLID, Has}
 use Rattle.geometry.specs.Plane.{Holds}
@@ -9,18 +9,15 @@ use Rattle.geometry.specs.Tiling.{neq→eqb, kind_solid}
 use Rattle.table.specs.Words.{BOTTOM, RIGHT, KIND, records_of, num, tile_of}
 use Rattle.table.specs.Sound.{UsedIn, solid_at, SolidIn}
 use Rattle.table.specs.Forms.{plane_in, Forms, used_is, has_holds}
-use Rattle.seek.specs.declared.area.Seen.{Seen}
-use Rattle.seek.specs.declared.area.Seen.TheVariants.{Nothing, Solid}
-use Rattle.seek.specs.declared.area.Row.{Row}
-use Rattle.seek.specs.declared.area.Row.TheVariants.{Clear, Stopped}
+use Rattle.seek.specs.declared.rows.Met.{Met}
 use Rattle.seek.specs.Find.{Finds, finds_one}
 use Rattle.seek.specs.Meaning.{Area, InArea, Before, higher, same_row, FreeCell, FreeArea, First}
 
 -- ---- the answer
 
-pub data Searches (t : List ℤ) (A : Area) : Seen → Type 0 where
-  nothing : {k : ℕ} → FreeArea t A → UsedIn t k → Searches t A (Nothing k)
-  solid : {i x y : ℕ} → First t A x y i → Searches t A (Solid i x y)
+-- no solid, with a tile that is in use, or the first occupied cell
+abbrev pub Searches : List ℤ → Area → Result ℕ Met → Type 0
+Searches t A r = MatchResult r (λ k. FreeArea t A × UsedIn t k) (λ m. First t A m.x m.y m.tile)
 
 -- ---- one row
 
@@ -39,9 +36,8 @@ pub record FirstInRow (t : List ℤ) (left right y i x : ℕ) : Type 0 where
   pub to : x < right
   pub none_before : (x' : ℕ) → left ≤ x' → x' < x → FreeCell t x' y
 
-pub data InRow (t : List ℤ) (left right y : ℕ) : Row → Type 0 where
-  clear : {k : ℕ} → Spans t left right y k → InRow t left right y (Clear k)
-  stopped : {i x : ℕ} → FirstInRow t left right y i x → InRow t left right y (Stopped i x)
+abbrev pub InRow : List ℤ → ℕ → ℕ → ℕ → Result ℕ Met → Type 0
+InRow t left right y r = MatchResult r (Spans t left right y) (λ m. FirstInRow t left right y m.tile m.x × (m.y ≡ y))
 
 solid_used : (t : List ℤ) (i : ℕ) → SolidIn t i → UsedIn t i
 solid_used t i s = record { below = s.below; used = λ e. omega (arith, s.kind) }
@@ -53,16 +49,6 @@ one_tile t f i j x y u v h k = finds_one t f x y i j (record { used = u; has = h
 -- a cell that a tile which is no solid holds
 pub free_under : (t : List ℤ) → Forms t → (k x y : ℕ) → UsedIn t k → num t k KIND ≢ SOLID → Has (tile_of t k) x y → FreeCell t x y
 free_under t f k x y u n h i s g = n (subst (λ j. num t j KIND ≡ SOLID) (one_tile t f i k x y (solid_used t i s) u g h) s.kind)
-
--- a solid at the row's first cell
-pub solid_first : (t : List ℤ) (left right y k : ℕ) → left < right → Finds t left y k → num t k KIND ≡ SOLID → FirstInRow t left right y k left
-solid_first t left right y k h f e = record {
-  solid = record { below = f.used.below; kind = e };
-  has = f.has;
-  from = omega arith;
-  to = h;
-  none_before = λ x' a b. absurd (omega arith);
-}
 
 -- beside a space tile stands a solid
 pub solid_beside : (t : List ℤ) → Forms t → (left right y k n x : ℕ) → Finds t left y k → num t k KIND ≢ SOLID
@@ -79,30 +65,12 @@ solid_beside t f left right y k n x u e q h v =
       none_before = λ x' a b. free_under t f k x' y u.used e (omega (arith, u.has));
     }
 
-pub spans : (t : List ℤ) (left right y k : ℕ) → Finds t left y k → num t k KIND ≢ SOLID → right ≤ num t k RIGHT → Spans t left right y k
-spans t left right y k f e h = record { used = f.used; no_solid = e; has = f.has; far = h }
-
--- what the row's answer says, by its case
-pub row_clear : (t : List ℤ) (left right y : ℕ) (r : Row) (k : ℕ) → InRow t left right y r → r ≡ Clear k → Spans t left right y k
-row_clear t left right y r k (clear {k = n} s) e = let d : n ≡ k = cc in subst (Spans t left right y) d s
-row_clear t left right y r k (stopped s) e = let z : ◌≡◌ {A = ℕ} 0 1 = cc in omega arith
-
-pub row_stopped : (t : List ℤ) (left right y : ℕ) (r : Row) (i x : ℕ) → InRow t left right y r → r ≡ Stopped i x → FirstInRow t left right y i x
-row_stopped t left right y r i x (clear s) e = let z : ◌≡◌ {A = ℕ} 0 1 = cc in omega arith
-row_stopped t left right y r i x (stopped {i = j} {x = w} s) e =
-    let d : j ≡ i = cc in
-    let b : w ≡ x = cc in
-    subst₂ (FirstInRow t left right y) d b s
-
 -- ---- row after row: from row y up the area is free, and the search stands at a used tile
 
 pub record FreeFrom (t : List ℤ) (A : Area) (y k : ℕ) : Type 0 where
   pub used : UsedIn t k
   pub to : y ≤ A.top
   pub free : (x' y' : ℕ) → InArea A x' y' → y ≤ y' → FreeCell t x' y'
-
-pub free_start : (t : List ℤ) (A : Area) (k : ℕ) → UsedIn t k → FreeFrom t A A.top k
-free_start t A k u = record { used = u; to = omega arith; free = λ x' y' a h. absurd (omega (arith, a.top)) }
 
 pub free_on : (t : List ℤ) → Forms t → (A : Area) (y k n : ℕ) → FreeFrom t A y k → A.bottom < y → Spans t A.left A.right (y - 1) n
     → FreeFrom t A (num t n BOTTOM) n
@@ -117,16 +85,16 @@ free_on t f A y k n g h s = record {
 pub free_ends : (t : List ℤ) (A : Area) (y k : ℕ) → FreeFrom t A y k → y ≤ A.bottom → FreeArea t A
 free_ends t A y k g h x' y' a = g.free x' y' a (omega (arith, a.bottom))
 
-pub first_of_area : (t : List ℤ) (A : Area) (y k i x : ℕ) → FreeFrom t A y k → A.bottom < y → FirstInRow t A.left A.right (y - 1) i x
-    → First t A x (y - 1) i
-first_of_area t A y k i x g h s = record {
+pub first_of_area : (t : List ℤ) (A : Area) (y k : ℕ) (m : Met) → FreeFrom t A y k → A.bottom < y
+    → FirstInRow t A.left A.right (y - 1) m.tile m.x × (m.y ≡ y - 1) → First t A m.x m.y m.tile
+first_of_area t A y k m g h (s, e) = subst (λ y. First t A m.x y m.tile) (sym e) (record {
   inside = record { left = s.from; right = s.to; bottom = omega arith; top = omega (arith, g.to) };
   solid = s.solid;
   has = s.has;
   none_before = before;
-}
+})
   where
-    before : (x' y' : ℕ) → InArea A x' y' → Before x' y' x (y - 1) → FreeCell t x' y'
+    before : (x' y' : ℕ) → InArea A x' y' → Before x' y' m.x (y - 1) → FreeCell t x' y'
     before x' y' a (higher l) = g.free x' y' a (omega arith)
     before x' y' a (same_row e l) = subst (FreeCell t x') (sym e) (s.none_before x' a.left l)
 
@@ -154,16 +122,3 @@ first_one t f A x y i x' y' i' p q =
 
 pub free_no_first : (t : List ℤ) (A : Area) (x y i : ℕ) → FreeArea t A → First t A x y i → ⊥
 free_no_first t A x y i h f = h x y f.inside i f.solid f.has
-
--- what area search saw
-pub searches_free : (t : List ℤ) (A : Area) (s : Seen) (k : ℕ) → Searches t A s → s ≡ Nothing k → FreeArea t A × UsedIn t k
-searches_free t A s k (nothing {k = n} h u) e = let d : n ≡ k = cc in (h, subst (UsedIn t) d u)
-searches_free t A s k (solid h) e = absurd (let z : ◌≡◌ {A = ℕ} 0 1 = cc in omega arith)
-
-pub searches_met : (t : List ℤ) (A : Area) (s : Seen) (i x y : ℕ) → Searches t A s → s ≡ Solid i x y → First t A x y i
-searches_met t A s i x y (nothing h u) e = absurd (let z : ◌≡◌ {A = ℕ} 0 1 = cc in omega arith)
-searches_met t A s i x y (solid {i = j} {x = u} {y = v} h) e =
-    let a : j ≡ i = cc in
-    let b : u ≡ x = cc in
-    let d : v ≡ y = cc in
-    subst (λ j. First t A x y j) a (subst (λ u. First t A u y j) b (subst (λ v. First t A u v j) d h))

@@ -1,5 +1,5 @@
 -- The tree of one tile p: how far the walk along p's right side has come, and what is written. Assumes nothing.
-use Rattle.std.specs.Prelude.{◌≡◌, refl, true, List, [], ◌∷◌, ◌++◌, ℕ, ◌+◌, ◌-◌, ◌≤◌, min, ℤ, length, take, drop}
+use Rattle.std.specs.Prelude.{◌≡◌, refl, Some, List, [], ◌∷◌, ◌++◌, ℕ, ◌+◌, ◌-◌, ◌≤◌, min, ℤ, length, take, drop}
 use Rattle.std.proofs.Common.{sym, subst₂, arith}
 use Rattle.geometry.specs.Picture.{right}
 use Rattle.table.specs.Words.{RIGHT, records_of, num}
@@ -50,24 +50,24 @@ module _ (t : List ℤ) (f : Forms t) (A : Area) (p : ℕ) (m : Meets t A p) whe
       }
 
   -- the walk stands at a tile
-  module _ (start out : List ℤ) (n : ℕ) (w : Walk) (g : Going t A p start out n w) (e : w.more ≡ true) where
+  module _ (start out : List ℤ) (n : ℕ) (w : Walk) (g : Going t A p start out n w) (k : ℕ) (e : w.at ≡ Some k) where
     pub going_short : n ≤ 1 + records_of t
     going_short = written_short t f A (Hangs t A p) (hangs_level t f A p) (Met g.walk) (p ∷ []) start out n g.written
 
-    module _ (w' : Walk) (o : Onward g.walk w') where
+    module _ (w' : Walk) (o : Onward g.walk k w') where
       -- the tile is passed by, or its tree is written to the rest of the list
-      pub going_pass : (out' : List ℤ) (n' : ℕ) → (Hangs t A p w.at → ⊥) → out' ≡ out → n' ≡ n → Going t A p start out' n' w'
+      pub going_pass : (out' : List ℤ) (n' : ℕ) → (Hangs t A p k → ⊥) → out' ≡ out → n' ≡ n → Going t A p start out' n' w'
       going_pass out' n' not eo en = subst₂ (λ out n. Going t A p start out n w') (sym eo) (sym en) (record {
         walk = o.walk;
         written = written_pass t f A (Hangs t A p) (hangs_level t f A p) (Met g.walk) (p ∷ []) start out n g.written
-            (Met o.walk) w.at o.grows (λ k q. o.no_other k) not;
+            (Met o.walk) k o.grows (λ j q. o.no_other j) not;
       })
 
-      pub going_more : (out' : List ℤ) (n' at c : ℕ) (ys : List ℤ) → Hangs t A p w.at → at ≡ min n (length out)
-          → WritesTree t A w.at (take (length out - at) (drop at out)) ys c
+      pub going_more : (out' : List ℤ) (n' at c : ℕ) (ys : List ℤ) → Hangs t A p k → at ≡ min n (length out)
+          → WritesTree t A k (take (length out - at) (drop at out)) ys c
           → out' ≡ take at out ++ (ys ++ drop (length out - at) (drop at out)) → n' ≡ n + c → Going t A p start out' n' w'
       going_more out' n' at c ys h ea v eo en = subst₂ (λ out n. Going t A p start out n w') (sym eo) (sym en) (record {
         walk = o.walk;
         written = written_more t f A (Hangs t A p) (hangs_level t f A p) (Met g.walk) (p ∷ []) start out n g.written
-            (Met o.walk) w.at o.grows (λ k q. o.no_other k) h o.here (λ k q. walking_after t f A p m w g.walk e k) at c ys ea v;
+            (Met o.walk) k o.grows (λ j q. o.no_other j) h o.here (λ j q. walking_after t f A p m w g.walk k e j) at c ys ea v;
       })

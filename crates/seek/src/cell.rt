@@ -1,21 +1,21 @@
 // The tile that holds a cell, from any tile: up or down to the cell's row, then left or right along it.
 ghost use Rattle.std.specs.Prelude.{◌<◌, ◌≤◌};
 ghost use Rattle.geometry.specs.Picture.{LOW, HIGH, InPlane};
-ghost use Rattle.table.specs.Words.{LEFT, RIGHT, num};
 ghost use Rattle.table.specs.Sound.{SizeRight, UsedIn};
 ghost use Rattle.table.specs.Forms.{Forms};
-ghost use Rattle.seek.specs.Find.{IsIn, Row, Under, CrossedLeft, CrossedRight, From, Finds};
+ghost use Rattle.seek.specs.Find.{IsIn, Row, From, Finds};
+ghost use Rattle.seek.specs.Legs.{Climbed, Descended};
 
 use table::follow;
 use table::numbers::{BL, BOTTOM, LB, LEFT, RIGHT, RT, TOP, TR};
 
 // Upwards, to a tile that ends over the row y.
-fn to_row_up(t: &[i32], from: usize, y: u64) -> usize
+fn climb(t: &[i32], from: usize, y: u64) -> usize
     requires forms { Forms t.now }
     requires size_right { SizeRight t.now }
-    requires fact { IsIn t.now from }
+    requires is_in { IsIn t.now from }
     requires y_bound { y < HIGH }
-    ensures { Under t.now result y }
+    ensures { Climbed t.now from y result }
 {
     let mut k = from;
     while table::word(t, k, TOP) <= y {
@@ -24,13 +24,13 @@ fn to_row_up(t: &[i32], from: usize, y: u64) -> usize
     k
 }
 
-// Downwards, to the tile that has the row y.
-fn to_row_down(t: &[i32], from: usize, y: u64) -> usize
+// Downwards, to a tile that does not begin over the row y.
+fn descend(t: &[i32], from: usize, y: u64) -> usize
     requires forms { Forms t.now }
     requires size_right { SizeRight t.now }
-    requires under { Under t.now from y }
+    requires is_in { IsIn t.now from }
     requires le_y { LOW ≤ y }
-    ensures { Row t.now result y }
+    ensures { Descended t.now from y result }
 {
     let mut k = from;
     while y < table::word(t, k, BOTTOM) {
@@ -39,36 +39,7 @@ fn to_row_down(t: &[i32], from: usize, y: u64) -> usize
     k
 }
 
-// Across the left side of tile a, which has the row y, to the tile there that has it.
-fn cross_left(t: &[i32], a: usize, y: u64) -> usize
-    requires forms { Forms t.now }
-    requires size_right { SizeRight t.now }
-    requires row { Row t.now a y }
-    requires bound { LOW < num t.now a LEFT }
-    ensures { CrossedLeft t.now a result y }
-{
-    let mut k = follow(t, a, BL);
-    while table::word(t, k, TOP) <= y {
-        k = follow(t, k, RT);
-    }
-    k
-}
-
-fn cross_right(t: &[i32], a: usize, y: u64) -> usize
-    requires forms { Forms t.now }
-    requires size_right { SizeRight t.now }
-    requires row { Row t.now a y }
-    requires a_bound { num t.now a RIGHT < HIGH }
-    ensures { CrossedRight t.now a result y }
-{
-    let mut k = follow(t, a, TR);
-    while y < table::word(t, k, BOTTOM) {
-        k = follow(t, k, LB);
-    }
-    k
-}
-
-// Leftwards in the row, to a tile that does not begin right of the column x.
+// Leftwards in the row, to a tile that does not begin right of the column x: the first tile at a left side, then up to the row.
 fn to_column_left(t: &[i32], from: usize, x: u64, y: u64) -> usize
     requires forms { Forms t.now }
     requires size_right { SizeRight t.now }
@@ -78,12 +49,12 @@ fn to_column_left(t: &[i32], from: usize, x: u64, y: u64) -> usize
 {
     let mut k = from;
     while x < table::word(t, k, LEFT) {
-        k = cross_left(t, k, y);
+        k = climb(t, follow(t, k, BL), y);
     }
     k
 }
 
-// Rightwards in the row, to the tile that has the column x.
+// Rightwards in the row, to the tile that has the column x: the first tile at a right side, then down to the row.
 fn to_column_right(t: &[i32], from: usize, x: u64, y: u64) -> usize
     requires forms { Forms t.now }
     requires size_right { SizeRight t.now }
@@ -93,12 +64,13 @@ fn to_column_right(t: &[i32], from: usize, x: u64, y: u64) -> usize
 {
     let mut k = from;
     while table::word(t, k, RIGHT) <= x {
-        k = cross_right(t, k, y);
+        k = descend(t, follow(t, k, TR), y);
     }
     k
 }
 
-// The tile that holds the cell (x, y), sought from the tile `from`.
+// The tile that holds the cell (x, y), sought from the tile `from`. Left comes before right, and each asks for what the one before it leaves, so that the two
+// are no one function of a side. A cell is two numbers, as `Has` states it.
 pub fn find(t: &[i32], from: usize, x: u64, y: u64) -> usize
     requires forms { Forms t.now }
     requires size_right { SizeRight t.now }
@@ -106,8 +78,8 @@ pub fn find(t: &[i32], from: usize, x: u64, y: u64) -> usize
     requires in_plane { InPlane x y }
     ensures { Finds t.now x y result }
 {
-    let up = to_row_up(t, from, y);
-    let row = to_row_down(t, up, y);
+    let up = climb(t, from, y);
+    let row = descend(t, up, y);
     let near = to_column_left(t, row, x, y);
     to_column_right(t, near, x, y)
 }

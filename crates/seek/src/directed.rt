@@ -1,26 +1,20 @@
 // The directed order of the tiles of an area: each tile, then the tiles that hang under it, top to bottom, each with all that hangs under it.
-ghost use Rattle.std.specs.Prelude.{◌≡◌, ◌∷◌, [], ◌<◌, min};
+ghost use Rattle.std.specs.Prelude.{◌≡◌, ◌∷◌, [], ◌<◌};
 ghost use Rattle.geometry.specs.Picture.{ZERO};
 ghost use Rattle.table.specs.Words.{records_of};
 ghost use Rattle.table.specs.Sound.{SizeRight, UsedIn};
 ghost use Rattle.table.specs.Forms.{Forms};
-ghost use Rattle.seek.specs.Meaning.{RectRight, Meets};
+ghost use Rattle.seek.specs.Meaning.{Meets};
 ghost use Rattle.seek.specs.Walk.{Goes};
 ghost use Rattle.seek.specs.Writing.{over, words};
 ghost use Rattle.seek.specs.RightSide.{Floor, Follows};
-ghost use Rattle.seek.specs.Enumerate.{area_of, edges, WritesTree, WritesArea, CountsArea};
+ghost use Rattle.seek.specs.Enumerate.{area_of, WritesTree, WritesArea, CountsArea};
 
+use crate::area::Area;
 use crate::cell::find;
-use crate::side::{Walk, along};
+use crate::rect::Rect;
+use crate::side::{Side, Walk, along};
 use table::numbers::{BOTTOM, LOW, RIGHT};
-
-#[derive(Clone, Copy)]
-pub struct Area {
-    pub left: u64,
-    pub bottom: u64,
-    pub right: u64,
-    pub top: u64,
-}
 
 // The lowest row in which a tile at p's right side can begin and hang under p. Where p reaches down to the area's bottom that is any row, since
 // the area cuts what begins under it.
@@ -37,110 +31,84 @@ fn put_first(out: &mut [i32], p: usize)
     requires { p < ZERO }
     ensures { out.new ≡ over (words (p ∷ [])) out.old }
 {
-    if out.len() > 0 {
-        out[0] = ruler::count(p as u64);
+    if let [first, ..] = out {
+        *first = ruler::count(p as u64);
     }
 }
 
-// Where entries after the first n are written: the list's end, where it is too short.
-fn place_after(n: usize, len: usize) -> usize
-    ensures { result ≡ min n len }
-{
-    if n < len { n } else { len }
-}
-
 // The walk's next tile, or its end where all that follow lie under the area.
-pub(crate) fn next(mut w: Walk, t: &[i32], bottom: u64) -> Walk
+pub(crate) fn next(w: Walk, t: &[i32], bottom: u64) -> Walk
     requires forms { Forms t.now }
     requires size_right { SizeRight t.now }
     requires goes { Goes t.now w }
     ensures { Follows t.now bottom w result }
 {
-    let at = w.at;
-    if table::word(t, at, BOTTOM) <= bottom {
-        w.more = false;
+    let Some(k) = w.at else {
         return w;
+    };
+    if table::word(t, k, BOTTOM) <= bottom {
+        return Walk { at: None, ..w };
     }
     w.step(t)
 }
 
 // The tree of tile p, as much of it as the list has room for. How many tiles it has. A tile that begins under the floor hangs under another tile,
-// and is the last at p's side. What is handed on as it came is copied through memory at each call: so the area comes as four numbers, of which
-// `left` only states the contract, and the table is lent on as a part of itself.
-fn subtree(
-    t: &[i32],
-    out: &mut [i32],
-    p: usize,
-    left: u64,
-    bottom: u64,
-    right: u64,
-    top: u64,
-) -> usize
+// and is the last at p's side. What is handed on as it came is copied through memory at each call: so the area is lent, and the table is lent on as a
+// part of itself.
+fn subtree(t: &[i32], out: &mut [i32], p: usize, area: &Area) -> usize
     requires forms { Forms t.now }
     requires size_right { SizeRight t.now }
-    requires meets { Meets t.now (edges left bottom right top) p }
-    ensures { WritesTree t.now (edges left bottom right top) p out.old out.new result }
+    requires meets { Meets t.now (area_of area.now) p }
+    ensures { WritesTree t.now (area_of area.now) p out.old out.new result }
 {
     put_first(out, p);
-    if table::word(t, p, RIGHT) >= right {
+    if table::word(t, p, RIGHT) >= area.right {
         return 1;
     }
-    let lowest = floor(t, p, bottom);
+    let lowest = floor(t, p, area.bottom);
     let mut n: usize = 1;
-    let mut w = along(t, p, 0);
-    while w.more {
-        let k = w.at;
+    let mut w = along(t, p, Side::Right);
+    while let Some(k) = w.at {
         let low = table::word(t, k, BOTTOM);
         if low < lowest {
             return n;
         }
-        if low < top {
-            let at = place_after(n, out.len());
-            let c = subtree(&t[..], &mut out[at..], k, left, bottom, right, top);
-            n = n + c;
+        if low < area.top {
+            let at = n.min(out.len());
+            let c = subtree(&t[..], &mut out[at..], k, area);
+            n += c;
         }
-        w = next(w, t, bottom);
+        w = next(w, t, area.bottom);
     }
     n
 }
 
-// The tiles of the area in directed order, as many as the list has room for. How many there are.
-pub fn list_area(t: &[i32], out: &mut [i32], from: usize, area: Area) -> usize
+// The tiles of the area in directed order, as many as the list has room for. How many there are. Down the left edge as in `search`, with a law of its own.
+pub fn list_area(t: &[i32], out: &mut [i32], from: usize, rect: Rect) -> usize
     requires forms { Forms t.now }
     requires size_right { SizeRight t.now }
     requires used_in { UsedIn t.now from }
-    requires rect_right { RectRight (area_of area) }
-    ensures { WritesArea t.now (area_of area) out.old out.new result }
+    ensures { WritesArea t.now (area_of rect.area) out.old out.new result }
 {
     let mut n: usize = 0;
     let mut k = from;
-    let mut y = area.top;
-    while area.bottom < y {
-        k = find(t, k, area.left, y - 1);
-        let at = place_after(n, out.len());
-        let c = subtree(
-            t,
-            &mut out[at..],
-            k,
-            area.left,
-            area.bottom,
-            area.right,
-            area.top,
-        );
-        n = n + c;
+    let mut y = rect.area.top;
+    while rect.area.bottom < y {
+        k = find(t, k, rect.area.left, y - 1);
+        let at = n.min(out.len());
+        let c = subtree(t, &mut out[at..], k, &rect.area);
+        n += c;
         y = table::word(t, k, BOTTOM);
     }
     n
 }
 
 // How many tiles the area has: nothing is written where there is no room.
-pub fn count_area(t: &[i32], from: usize, area: Area) -> usize
+pub fn count_area(t: &[i32], from: usize, rect: Rect) -> usize
     requires forms { Forms t.now }
     requires size_right { SizeRight t.now }
     requires used_in { UsedIn t.now from }
-    requires rect_right { RectRight (area_of area) }
-    ensures { CountsArea t.now (area_of area) result }
+    ensures { CountsArea t.now (area_of rect.area) result }
 {
-    let mut none: [i32; 1] = [0];
-    list_area(t, &mut none[0..0], from, area)
+    list_area(t, &mut [], from, rect)
 }

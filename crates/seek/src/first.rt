@@ -8,11 +8,12 @@ pub fn first_used(t: &[i32]) -> usize
     requires { Forms t.now }
     ensures { FirstUsed t.now result }
 {
-    let mut i: usize = 0;
-    while table::word(t, i, KIND) == FREE {
-        i += 1;
+    for i in 0..table::records(t) {
+        if table::word(t, i, KIND) != FREE {
+            return i;
+        }
     }
-    i
+    unreachable!()
 }
 
 // The record that a hint, a word's number, names, where that is a used one; else the first used record.
@@ -20,15 +21,11 @@ pub fn start(t: &[i32], hint: u64) -> usize
     requires { Forms t.now }
     ensures { Starts t.now hint result }
 {
-    if hint < ZERO {
-        return first_used(t);
+    if hint >= ZERO {
+        let i = (hint - ZERO) as usize;
+        if i < table::records(t) && table::word(t, i, KIND) != FREE {
+            return i;
+        }
     }
-    let i = (hint - ZERO) as usize;
-    if i >= table::records(t) {
-        return first_used(t);
-    }
-    if table::word(t, i, KIND) == FREE {
-        return first_used(t);
-    }
-    i
+    first_used(t)
 }

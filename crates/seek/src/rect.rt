@@ -1,37 +1,34 @@
-// What RECT lets pass.
-ghost use Rattle.std.specs.Prelude.{◌↔◌, T};
+// An area that RECT lets pass.
 ghost use Rattle.seek.specs.Meaning.{RectRight};
 ghost use Rattle.seek.specs.Enumerate.{area_of};
 
-use crate::directed::Area;
+use crate::area::Area;
 use table::numbers::{HIGH, LOW};
 
-pub fn rect_right(area: Area) -> bool
-    ensures { T result ↔ RectRight (area_of area) }
-{
-    let Area {
-        left,
-        bottom,
-        right,
-        top,
-    } = area;
-    if right <= left {
-        return false;
+#[derive(Clone, Copy)]
+pub struct Rect {
+    pub area: Area,
+    pub ghost right: { RectRight (area_of area) },
+}
+
+impl Rect {
+    ghost use Rattle.seek.specs.Passing.{Passes};
+
+    pub fn new(area: Area) -> Option<Rect>
+        ensures { Passes (area_of area) result }
+    {
+        let Area {
+            left,
+            bottom,
+            right,
+            top,
+        } = area;
+        let is_right = left < right
+            && bottom < top
+            && LOW <= left
+            && right <= HIGH
+            && LOW <= bottom
+            && top <= HIGH;
+        if is_right { Some(Rect { area }) } else { None }
     }
-    if top <= bottom {
-        return false;
-    }
-    if left < LOW {
-        return false;
-    }
-    if HIGH < right {
-        return false;
-    }
-    if bottom < LOW {
-        return false;
-    }
-    if HIGH < top {
-        return false;
-    }
-    true
 }

@@ -1,5 +1,5 @@
 -- The second pass: the left column, the right side of each tile, and what lies above each space tile. Assumes nothing.
-use Rattle.std.specs.Prelude.{◌≡◌, ◌≢◌, ◌↔◌, Bool, true, false, List, ℕ, ◌-◌, ◌≤◌, ◌<◌, T, ℤ}
+use Rattle.std.specs.Prelude.{Option, Some, None, ◌≡◌, ◌≢◌, ◌↔◌, Bool, true, false, List, ℕ, ◌-◌, ◌≤◌, ◌<◌, T, ℤ}
 use Rattle.std.proofs.Common.{sym, arith}
 use Rattle.geometry.specs.Picture.{LOW, HIGH, FREE, SPACE, SOLID, Has}
 use Rattle.table.specs.Words.{RIGHT, TOP, TR, RT, KIND, num, records_of, tile_of}
@@ -18,6 +18,10 @@ use Rattle.sound.specs.Passed.{Sided, Twin, Unstacked, forms_first, forms_corner
 pub record Corner (t : List ℤ) (k : ℕ) : Type 0 where
   pub has : k < records_of t → Has (tile_of t k) LOW (HIGH - 1)
   pub none : (m : ℕ) → m < k → Has (tile_of t m) LOW (HIGH - 1) → ⊥
+
+abbrev pub Corners : List ℤ → Option ℕ → Type 0
+Corners t (Some k) = (k < records_of t) × Corner t k
+Corners t None = Corner t (records_of t)
 
 pub record LeftColumn (t : List ℤ) (r : Bool) : Type 0 where
   pub rows : T r → Rows t LOW SOLID LOW HIGH

@@ -1,15 +1,17 @@
 -- The sums of the first pass: the cells that the used records take, and the solids. Assumes nothing.
-use Rattle.std.specs.Prelude.{◌≡◌, refl, ◌≢◌, ◌↔◌, Bool, true, not, List, ℕ, ◌+◌, ◌-◌, ◌*◌, ◌^◌, ◌≤◌, ◌<◌, T, eqb, ℤ}
+use Rattle.std.specs.Prelude.{Option, Some, None, ◌≡◌, refl, ◌↔◌, Bool, true, false, not, List, ℕ, ◌+◌, ◌-◌, ◌*◌, ◌^◌, ◌≤◌, ◌<◌, T, eqb, ℤ}
 use Rattle.std.proofs.Common.{sym, ap, ap₂, ◌∙◌, mul-le-mul, zero-mul, add-one, arith, below_none, below_more, eq-eqb, ne_eqb}
+use Rattle.std.specs.Int.{from_bool}
 use Rattle.geometry.specs.Cases.{eq_cases}
 use Rattle.geometry.specs.Counting.{only, sum_to, count}
-use Rattle.geometry.specs.Picture.{FREE, SOLID}
+use Rattle.geometry.specs.Picture.{FREE}
 use Rattle.geometry.specs.Plane.{area}
 use Rattle.table.specs.Words.{LEFT, BOTTOM, RIGHT, TOP, KIND, num, records_of}
 use Rattle.table.specs.Sound.{SizeRight, Zeros, solid_at, solids_in}
 use Rattle.table.specs.Forms.{plane_in}
 use Rattle.table.specs.Reading.{Reads}
 use Rattle.table.specs.declared.Record.{Record}
+use Rattle.sound.specs.declared.records.Sums.{Sums}
 use Rattle.sound.specs.Records.{Well, AllWell}
 use Rattle.sound.specs.Links.{Linked, Ready, Tested, all_stitched}
 
@@ -80,13 +82,10 @@ cells_are t k v h w =
       fits = in_square (v.right - v.left) (v.top - v.bottom) (omega arith) (omega arith);
     }
 
-pub one_solid : (t : List ℤ) (k : ℕ) → num t k KIND ≡ SOLID → one t k ≡ 1
+pub one_is : (t : List ℤ) (k : ℕ) (b : Bool) → b ≡ solid_at t k → OneIs t k (from_bool b)
 unfolding one
-one_solid t k e = ap (λ b. only b 1) (eq-eqb (num t k KIND) SOLID e)
-
-pub one_other : (t : List ℤ) (k : ℕ) → num t k KIND ≢ SOLID → one t k ≡ 0
-unfolding one
-one_other t k n = ap (λ b. only b 1) (ne_eqb (num t k KIND) SOLID n)
+one_is t k true e = record { is = ap (λ b. only b 1) e; fits = omega arith }
+one_is t k false e = record { is = ap (λ b. only b 1) e; fits = omega arith }
 
 pub area_none : (t : List ℤ) → area_to t 0 ≡ 0
 unfolding area_to sum_to
@@ -117,6 +116,11 @@ pub record Tallied (t : List ℤ) (a s : ℕ) (w : Bool) : Type 0 where
   pub ready : T w ↔ Ready t
   pub area : T w → a ≡ area (plane_in t)
   pub solids : T w → s ≡ solids_in t
+
+-- the sums that it finds, or none where it stops
+abbrev pub Tallies : List ℤ → Option Sums → Type 0
+Tallies t (Some s) = Tallied t s.area s.solids true
+Tallies t None = Tallied t 0 0 false
 
 -- the sums over the records below i, all of which passed
 pub record Summed (t : List ℤ) (i a s : ℕ) : Type 0 where

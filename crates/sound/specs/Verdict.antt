@@ -1,5 +1,5 @@
 -- What the check answers. Assumes nothing.
-use Rattle.std.specs.Prelude.{◌≡◌, refl, ◌↔◌, Bool, true, false, List, ℕ, ◌^◌, ◌≤◌, T, ℤ}
+use Rattle.std.specs.Prelude.{Option, Some, None, ◌≡◌, refl, ◌↔◌, Bool, true, false, List, ℕ, ◌^◌, ◌≤◌, T, ℤ}
 use Rattle.std.proofs.Common.{sym, ◌∙◌, arith}
 use Rattle.geometry.specs.Picture.{LOW, HIGH, SOLID}
 use Rattle.table.specs.Words.{records_of}
@@ -15,6 +15,11 @@ pub record Checked (t : List ℤ) (s : Bool) (n : ℕ) : Type 0 where
   pub sound : T s ↔ Forms t
   pub solids : T s → n ≡ solids_in t
   pub none : (T s → ⊥) → n ≡ 0
+
+-- how many solids a sound table has, or none
+abbrev pub Checks : List ℤ → Option ℕ → Type 0
+Checks t (Some n) = Checked t true n
+Checks t None = Checked t false 0
 
 -- the sums are those of the plane, and of a table that takes as many solids
 pub record Measured (t : List ℤ) (a n : ℕ) : Type 0 where

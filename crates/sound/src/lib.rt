@@ -1,10 +1,11 @@
-// The soundness check, exact, and linear on a sound table: no record is held against every other.
+// The soundness check, exact, and linear on a sound table: no record is held against every other. Why `SizeRight` and what the passes find stand as
+// clauses is said in seek's src/lib.rt.
 #![tactic(auto)]
 
 ghost use Rattle.std.specs.Prelude.{◌↔◌, T};
 ghost use Rattle.table.specs.Sound.{SizeRight};
 ghost use Rattle.sound.specs.Links.{Ready};
-ghost use Rattle.sound.specs.Verdict.{Checked, Measured, LaidIs};
+ghost use Rattle.sound.specs.Verdict.{Checks, Measured, LaidIs};
 
 mod records;
 mod sides;
@@ -22,13 +23,7 @@ fn measured(t: &[i32], area: u64, solids: usize) -> bool
     requires { SizeRight t.now }
     ensures { T result ↔ Measured t.now area solids }
 {
-    if area != AREA {
-        return false;
-    }
-    if table::capacity(t) < solids {
-        return false;
-    }
-    true
+    area == AREA && solids <= table::capacity(t)
 }
 
 // How the tiles lie: left column, right sides, what is above.
@@ -36,40 +31,18 @@ fn laid(t: &[i32]) -> bool
     requires { Ready t.now }
     ensures { LaidIs t.now result }
 {
-    if sides::left_column(t) {
-        return sides::all_beside(t);
-    }
-    false
+    sides::left_column(t) && sides::all_beside(t)
 }
 
-#[derive(Clone, Copy)]
-pub struct Verdict {
-    pub sound: bool,
-    pub solids: usize,
-}
-
-// Whether the table is sound, and if it is, how many solids it has.
-pub fn check(t: &[i32]) -> Verdict
+// How many solids a sound table has; none where the table is not sound.
+pub fn check(t: &[i32]) -> Option<usize>
     requires { SizeRight t.now }
-    ensures { Checked t.now result.sound result.solids }
+    ensures { Checks t.now result }
 {
-    let Sums {
-        ready,
-        area,
-        solids,
-    } = records::tally(t);
-    if ready {
-        if measured(t, area, solids) {
-            if laid(t) {
-                return Verdict {
-                    sound: true,
-                    solids,
-                };
-            }
-        }
-    }
-    Verdict {
-        sound: false,
-        solids: 0,
+    let Sums { area, solids } = records::tally(t)?;
+    if measured(t, area, solids) && laid(t) {
+        Some(solids)
+    } else {
+        None
     }
 }

@@ -6,7 +6,7 @@ ghost use Rattle.table.specs.Sound.{SizeRight, Zeros};
 ghost use Rattle.table.specs.Forms.{plane_in};
 ghost use Rattle.sound.specs.Records.{KindRight, Well};
 ghost use Rattle.sound.specs.Links.{Tested};
-ghost use Rattle.sound.specs.Tally.{CellsAre, OneIs, Tallied};
+ghost use Rattle.sound.specs.Tally.{CellsAre, OneIs, Tallies};
 
 use crate::stitches;
 use table::Record;
@@ -17,17 +17,10 @@ fn blank(t: &[i32], i: usize) -> bool
     requires { i < records_of t.now }
     ensures { T result ↔ Zeros t.now i }
 {
-    let mut k = 0;
-    while k < WIDTH {
-        if table::word(t, i, k) != ZERO {
-            return false;
-        }
-        k += 1;
-    }
-    true
+    (0..WIDTH).all(|k| table::word(t, i, k) == ZERO)
 }
 
-// A rectangle of the plane.
+// A rectangle of the plane: `seek::Rect` asks the same of four numbers, and `sound` does not rest on `seek`.
 fn formed(t: &[i32], i: usize) -> bool
     requires { i < records_of t.now }
     ensures { T result ↔ Formed (plane_in t.now) i }
@@ -39,22 +32,7 @@ fn formed(t: &[i32], i: usize) -> bool
         top,
         ..
     } = table::read(t, i);
-    if left < LOW {
-        return false;
-    }
-    if HIGH < right {
-        return false;
-    }
-    if bottom < LOW {
-        return false;
-    }
-    if HIGH < top {
-        return false;
-    }
-    if table::under_word(t, left, i, RIGHT) {
-        return table::under_word(t, bottom, i, TOP);
-    }
-    false
+    LOW <= left && left < right && right <= HIGH && LOW <= bottom && bottom < top && top <= HIGH
 }
 
 // Kind and label go together.
@@ -63,18 +41,11 @@ fn kind_right(t: &[i32], i: usize) -> bool
     ensures { T result ↔ KindRight t.now i }
 {
     let Record { kind, label, .. } = table::read(t, i);
-    if kind == SPACE {
-        if label == ZERO {
-            return true;
-        }
-        return false;
+    match kind {
+        SPACE => label == ZERO,
+        SOLID => ZERO < label,
+        _ => false,
     }
-    if kind == SOLID {
-        if ZERO < label {
-            return true;
-        }
-    }
-    false
 }
 
 fn well(t: &[i32], i: usize) -> bool
@@ -82,12 +53,10 @@ fn well(t: &[i32], i: usize) -> bool
     ensures { T result ↔ Well t.now i }
 {
     if table::word(t, i, KIND) == FREE {
-        return blank(t, i);
+        blank(t, i)
+    } else {
+        formed(t, i) && kind_right(t, i)
     }
-    if formed(t, i) {
-        return kind_right(t, i);
-    }
-    false
 }
 
 // Record i by itself, and its stitches.
@@ -95,10 +64,7 @@ fn tested(t: &[i32], i: usize) -> bool
     requires { SizeRight t.now × (i < records_of t.now) }
     ensures { Tested t.now i result }
 {
-    if well(t, i) {
-        return stitches::linked(t, i);
-    }
-    false
+    well(t, i) && stitches::linked(t, i)
 }
 
 // The cells that record i takes: a free one is ten zeros and takes none.
@@ -121,44 +87,28 @@ fn one(t: &[i32], i: usize) -> usize
     requires { i < records_of t.now }
     ensures { OneIs t.now i result }
 {
-    if table::word(t, i, KIND) == SOLID {
-        return 1;
-    }
-    0
+    usize::from(table::word(t, i, KIND) == SOLID)
 }
 
 #[derive(Clone, Copy)]
 pub(crate) struct Sums {
-    pub(crate) ready: bool,
     pub(crate) area: u64,
     pub(crate) solids: usize,
 }
 
 // The first pass.
-pub(crate) fn tally(t: &[i32]) -> Sums
+pub(crate) fn tally(t: &[i32]) -> Option<Sums>
     requires { SizeRight t.now }
-    ensures { Tallied t.now result.area result.solids result.ready }
+    ensures { Tallies t.now result }
 {
-    let n = table::records(t);
     let mut area = 0;
     let mut solids = 0;
-    let mut i = 0;
-    while i < n {
-        if tested(t, i) {
-            area += cells(t, i);
-            solids += one(t, i);
-            i += 1;
-        } else {
-            return Sums {
-                ready: false,
-                area: 0,
-                solids: 0,
-            };
+    for i in 0..table::records(t) {
+        if !tested(t, i) {
+            return None;
         }
+        area += cells(t, i);
+        solids += one(t, i);
     }
-    Sums {
-        ready: true,
-        area,
-        solids,
-    }
+    Some(Sums { area, solids })
 }

@@ -6,7 +6,7 @@ ghost use Rattle.table.specs.Sound.{UsedIn};
 ghost use Rattle.sound.specs.Links.{Ready};
 ghost use Rattle.sound.specs.Columns.{Fit, Column};
 ghost use Rattle.sound.specs.Passed.{Twin, Unstacked};
-ghost use Rattle.sound.specs.Sides.{Corner, LeftColumn, Side, Beside, AllBeside};
+ghost use Rattle.sound.specs.Sides.{Corners, LeftColumn, Side, Beside, AllBeside};
 
 use crate::stitches;
 use table::Record;
@@ -18,15 +18,7 @@ fn fits(t: &[i32], k: usize, x: u64, of: u64) -> bool
     ensures { T result ↔ Fit t.now x of k }
 {
     let Record { left, kind, .. } = table::read(t, k);
-    if left != x {
-        return false;
-    }
-    if of == SPACE {
-        if kind != SOLID {
-            return false;
-        }
-    }
-    true
+    left == x && (of != SPACE || kind == SOLID)
 }
 
 // From tile k down column x by lb, until a tile reaches the floor: each begins at x.
@@ -46,19 +38,11 @@ fn column(t: &[i32], k: usize, x: u64, of: u64, floor: u64) -> bool
 }
 
 // The first record that holds the plane's upper left cell.
-fn corner(t: &[i32]) -> usize
+fn corner(t: &[i32]) -> Option<usize>
     requires { Ready t.now }
-    ensures { Corner t.now result }
+    ensures { Corners t.now result }
 {
-    let n = table::records(t);
-    let mut i = 0;
-    while i < n {
-        if stitches::holds(t, i, LOW, HIGH - 1) {
-            return i;
-        }
-        i += 1;
-    }
-    n
+    (0..table::records(t)).find(|i| stitches::holds(t, *i, LOW, HIGH - 1))
 }
 
 // The left column: the plane's edge counts as a solid.
@@ -66,11 +50,10 @@ pub(crate) fn left_column(t: &[i32]) -> bool
     requires { Ready t.now }
     ensures { LeftColumn t.now result }
 {
-    let k = corner(t);
-    if table::records(t) <= k {
-        return false;
+    match corner(t) {
+        Some(k) => column(t, k, LOW, SOLID, LOW),
+        None => false,
     }
-    column(t, k, LOW, SOLID, LOW)
 }
 
 // The right side of tile i: what touches it begins there, and is solid where i is space.
@@ -84,11 +67,7 @@ fn side(t: &[i32], i: usize) -> bool
         kind,
         ..
     } = table::read(t, i);
-    if HIGH <= right {
-        return true;
-    }
-    let first = table::follow(t, i, TR);
-    column(t, first, right, kind, bottom)
+    HIGH <= right || column(t, table::follow(t, i, TR), right, kind, bottom)
 }
 
 // Record k is a space tile of this span.
@@ -102,16 +81,7 @@ fn twin(t: &[i32], k: usize, from: u64, to: u64) -> bool
         kind,
         ..
     } = table::read(t, k);
-    if kind != SPACE {
-        return false;
-    }
-    if left != from {
-        return false;
-    }
-    if right != to {
-        return false;
-    }
-    true
+    kind == SPACE && left == from && right == to
 }
 
 // No space tile of the same span directly above the space tile i.
@@ -125,14 +95,7 @@ fn unstacked(t: &[i32], i: usize) -> bool
         top,
         ..
     } = table::read(t, i);
-    if HIGH <= top {
-        return true;
-    }
-    let above = table::follow(t, i, RT);
-    if twin(t, above, left, right) {
-        return false;
-    }
-    true
+    HIGH <= top || !twin(t, table::follow(t, i, RT), left, right)
 }
 
 // Record i: a tile, with what lies at its right and, if it is space, above it.
@@ -140,17 +103,11 @@ fn beside(t: &[i32], i: usize) -> bool
     requires { Ready t.now × (i < records_of t.now) }
     ensures { Beside t.now i result }
 {
-    let kind = table::word(t, i, KIND);
-    if kind == SPACE {
-        if side(t, i) {
-            return unstacked(t, i);
-        }
-        return false;
+    match table::word(t, i, KIND) {
+        FREE => true,
+        SPACE => side(t, i) && unstacked(t, i),
+        _ => side(t, i),
     }
-    if kind == FREE {
-        return true;
-    }
-    side(t, i)
 }
 
 // The second pass, along all tiles.
@@ -158,14 +115,5 @@ pub(crate) fn all_beside(t: &[i32]) -> bool
     requires { Ready t.now }
     ensures { AllBeside t.now result }
 {
-    let n = table::records(t);
-    let mut i = 0;
-    while i < n {
-        if beside(t, i) {
-            i += 1;
-        } else {
-            return false;
-        }
-    }
-    true
+    (0..table::records(t)).all(|i| beside(t, i))
 }

@@ -9,22 +9,16 @@ ghost use Rattle.sound.specs.Links.{Linked};
 use table::Record;
 use table::numbers::{BL, BOTTOM, FREE, LB, LEFT, NONE, RIGHT, RT, TOP, TR};
 
-// Record i holds the cell (x, y).
+// Record i holds the cell (x, y). A cell is two numbers and no struct, as `Has` and `InPlane` state it: each is compared with a word of its own.
 pub(crate) fn holds(t: &[i32], i: usize, x: u64, y: u64) -> bool
     requires i_bound { i < records_of t.now }
     requires x_bound { (x < 2 ^ 32) × (y < 2 ^ 32) }
     ensures { T result ↔ Has (tile_of t.now i) x y }
 {
-    if table::under_word(t, x, i, LEFT) {
-        return false;
-    }
-    if table::under_word(t, y, i, BOTTOM) {
-        return false;
-    }
-    if table::under_word(t, x, i, RIGHT) {
-        return table::under_word(t, y, i, TOP);
-    }
-    false
+    !table::under_word(t, x, i, LEFT)
+        && !table::under_word(t, y, i, BOTTOM)
+        && table::under_word(t, x, i, RIGHT)
+        && table::under_word(t, y, i, TOP)
 }
 
 // A right stitch, the word s of record i: it names the tile that holds its cell (x, y), and is -1 where the cell lies outside the plane. The record
@@ -36,15 +30,10 @@ fn names(t: &[i32], i: usize, s: usize, x: u64, y: u64) -> bool
 {
     let k = table::follow(t, i, s);
     if k < table::records(t) {
-        return holds(t, k, x, y);
+        holds(t, k, x, y)
+    } else {
+        !table::in_plane(x, y) && table::word(t, i, s) == NONE
     }
-    if table::in_plane(x, y) {
-        return false;
-    }
-    if table::word(t, i, s) == NONE {
-        return true;
-    }
-    false
 }
 
 // The four stitches of record i, if it is used.
@@ -60,15 +49,9 @@ pub(crate) fn linked(t: &[i32], i: usize) -> bool
         kind,
         ..
     } = table::read(t, i);
-    if kind == FREE {
-        return true;
-    }
-    if names(t, i, TR, right, top - 1) {
-        if names(t, i, RT, right - 1, top) {
-            if names(t, i, BL, left - 1, bottom) {
-                return names(t, i, LB, left, bottom - 1);
-            }
-        }
-    }
-    false
+    kind == FREE
+        || (names(t, i, TR, right, top - 1)
+            && names(t, i, RT, right - 1, top)
+            && names(t, i, BL, left - 1, bottom)
+            && names(t, i, LB, left, bottom - 1))
 }

@@ -7,6 +7,7 @@ ghost use Rattle.table.specs.Sound.{UsedIn};
 ghost use Rattle.table.specs.Forms.{Forms, solid_set};
 ghost use Rattle.sound.specs.Touching.{AgreeIn, LastRight, CornerAgrees, Ahead, LooksAt};
 
+use table::Record;
 use table::numbers::{BL, BOTTOM, FREE, HIGH, KIND, LABEL, LB, RIGHT, RT, SOLID, TR, ZERO};
 
 // i and j are not two solids of different labels. A number past the records is no solid, and a record's label is 0 exactly where it is none.
@@ -15,27 +16,15 @@ fn agree(t: &[i32], i: usize, j: usize) -> bool
     ensures { T result ↔ AgreeIn t.now i j }
 {
     let n = table::records(t);
-    if n <= i {
+    if n <= i || n <= j {
         return true;
     }
     let a = table::word(t, i, LABEL);
-    if a == ZERO {
-        return true;
-    }
-    if n <= j {
-        return true;
-    }
     let b = table::word(t, j, LABEL);
-    if b == ZERO {
-        return true;
-    }
-    if a == b {
-        return true;
-    }
-    false
+    a == ZERO || b == ZERO || a == b
 }
 
-// The last tile down the right side of a.
+// The last tile down the right side of a; `sound` does not rest on `seek`, which goes the same way.
 fn last_right(t: &[i32], a: usize) -> usize
     requires forms { Forms t.now }
     requires used_in { UsedIn t.now a }
@@ -57,17 +46,12 @@ fn corner_agrees(t: &[i32], i: usize) -> bool
     ensures { T result ↔ CornerAgrees t.now i }
 {
     let x = table::word(t, i, RIGHT);
-    if HIGH <= x {
-        return true;
-    }
     let over = table::follow(t, i, RT);
-    if table::records(t) <= over {
+    if HIGH <= x || table::records(t) <= over {
         return true;
     }
-    if table::word(t, over, RIGHT) != x {
-        return true;
-    }
-    if table::word(t, over, KIND) == SOLID {
+    let Record { right, kind, .. } = table::read(t, over);
+    if right != x || kind == SOLID {
         return true;
     }
     agree(t, i, last_right(t, over))
@@ -79,12 +63,9 @@ fn ahead(t: &[i32], i: usize) -> bool
     requires used_in { UsedIn t.now i }
     ensures { T result ↔ Ahead t.now i }
 {
-    if agree(t, i, table::follow(t, i, TR)) {
-        if agree(t, i, table::follow(t, i, RT)) {
-            return corner_agrees(t, i);
-        }
-    }
-    false
+    agree(t, i, table::follow(t, i, TR))
+        && agree(t, i, table::follow(t, i, RT))
+        && corner_agrees(t, i)
 }
 
 // The looks of record i, if it is used: what meets at its lower left corner, and, if it is solid, what lies ahead.
@@ -94,16 +75,9 @@ fn looks(t: &[i32], i: usize) -> bool
     ensures { T result ↔ LooksAt t.now i }
 {
     let kind = table::word(t, i, KIND);
-    if kind == FREE {
-        return true;
-    }
-    if agree(t, table::follow(t, i, BL), table::follow(t, i, LB)) {
-        if kind != SOLID {
-            return true;
-        }
-        return ahead(t, i);
-    }
-    false
+    kind == FREE
+        || (agree(t, table::follow(t, i, BL), table::follow(t, i, LB))
+            && (kind != SOLID || ahead(t, i)))
 }
 
 // The last pass.
@@ -111,14 +85,5 @@ pub(crate) fn joined(t: &[i32]) -> bool
     requires { Forms t.now }
     ensures { T result ↔ Joined (solid_set t.now) }
 {
-    let n = table::records(t);
-    let mut i = 0;
-    while i < n {
-        if looks(t, i) {
-            i += 1;
-        } else {
-            return false;
-        }
-    }
-    true
+    (0..table::records(t)).all(|i| looks(t, i))
 }

@@ -1,11 +1,11 @@
-// The lent words as numbered tiles: the only crate that knows where a record's words lie.
+// The lent words as numbered tiles: the only crate that knows where a record's words lie. An arena of numbers, since the table is lent, and of a fixed size.
 #![tactic(auto)]
 
-ghost use Rattle.std.specs.Prelude.{◌≡◌, ◌↔◌, ◌+◌, ◌*◌, ◌≤◌, ◌<◌, ◌^◌, T, pos, ◌++◌, length, drop, replicate};
+ghost use Rattle.std.specs.Prelude.{◌≡◌, ◌↔◌, ℕ, MatchOption, ◌+◌, ◌*◌, ◌≤◌, ◌<◌, ◌^◌, T, pos, ◌++◌, length, drop, replicate};
 ghost use Rattle.geometry.specs.Picture.{InPlane};
 ghost use Rattle.table.specs.Fresh.{whole_plane, fresh_table};
 ghost use Rattle.table.specs.Sound.{SizeRight, capacity};
-ghost use Rattle.table.specs.View.{Places};
+ghost use Rattle.table.specs.View.{Numbers, Places};
 ghost use Rattle.table.specs.Words.{WIDTH, records_of, num};
 ghost use Rattle.table.specs.Reading.{WordIs, Reads, write};
 ghost use Rattle.table.specs.Forms.{none, link};
@@ -17,23 +17,11 @@ use numbers::{
     ZERO,
 };
 
-// Whether a cell is of the plane.
+// Whether a cell is of the plane. A cell is two numbers here, as in `InPlane`.
 pub fn in_plane(x: u64, y: u64) -> bool
     ensures { T result ↔ InPlane x y }
 {
-    if x < LOW {
-        return false;
-    }
-    if HIGH <= x {
-        return false;
-    }
-    if y < LOW {
-        return false;
-    }
-    if HIGH <= y {
-        return false;
-    }
-    true
+    (LOW..HIGH).contains(&x) && (LOW..HIGH).contains(&y)
 }
 
 // A record's ten words as numbers on the ruler.
@@ -74,7 +62,8 @@ pub fn word(t: &[i32], i: usize, k: usize) -> u64
     ruler::at(t[WIDTH * i + k])
 }
 
-// The tile that the stitch in word k of record i names: a record's number, or a number past every record.
+// The tile that the stitch in word k of record i names: a record's number, or a number past every record. A number and no Option: where a walk goes, the stitch
+// names a record, and each step would unwrap it; at the rim the number is compared with the records once.
 pub fn follow(t: &[i32], i: usize, k: usize) -> usize
     requires { WIDTH * i + k < length t.now }
     ensures { result ≡ link (num t.now i k) }
@@ -130,56 +119,25 @@ pub fn set_word(t: &mut [i32], i: usize, k: usize, n: u64)
 pub fn size_right(t: &[i32]) -> bool
     ensures { T result ↔ SizeRight t.now }
 {
-    let n = t.len();
-    if n % WIDTH != 0 {
-        return false;
-    }
-    if n / WIDTH < LEAST {
-        return false;
-    }
-    if MOST < n / WIDTH {
-        return false;
-    }
-    true
+    let n = records(t);
+    t.len() % WIDTH == 0 && (LEAST..=MOST).contains(&n)
 }
 
-fn clear(t: &mut [i32])
-    ensures { t.new ≡ replicate (length t.old) (pos 0) }
-{
-    let mut i = 0;
-    while i < t.len() {
-        t[i] = 0;
-        i += 1;
-    }
-}
-
-// Record 0 as the whole plane.
-fn whole_plane(t: &mut [i32])
-    requires { WIDTH ≤ length t.old }
-    ensures { t.new ≡ whole_plane ++ drop WIDTH t.old }
-{
-    t[0] = -16777216;
-    t[1] = -16777216;
-    t[2] = 16777216;
-    t[3] = 16777216;
-    t[4] = -1;
-    t[5] = -1;
-    t[6] = -1;
-    t[7] = -1;
-    t[8] = 1;
-    t[9] = 0;
-}
+// The whole plane as one space tile whose four stitches are -1.
+const PLANE: [i32; WIDTH] = [
+    -16777216, -16777216, 16777216, 16777216, -1, -1, -1, -1, 1, 0,
+];
 
 // The fresh plane: one space tile, in record 0.
 pub fn fresh(t: &mut [i32])
     requires { WIDTH ≤ length t.old }
     ensures { t.new ≡ fresh_table (length t.old) }
 {
-    clear(t);
-    whole_plane(t);
+    t.fill(0);
+    t[..WIDTH].copy_from_slice(&PLANE);
 }
 
-// Where the words of a record lie: the first of them, and how many there are.
+// Where the words of a record lie: the first of them, and how many there are. The C interface (`ush_view`): a slice cannot be returned to C.
 #[repr(C)]
 #[derive(Clone, Copy)]
 pub struct Part {
@@ -187,21 +145,23 @@ pub struct Part {
     pub len: usize,
 }
 
-// The place of the record that a word numbers, or an empty one: any table and any number is answered.
+// The record that a word numbers, if the table has the right size and has that record: any table and any number is answered.
+fn numbered(t: &[i32], index: i32) -> Option<usize>
+    ensures { MatchOption result ((i : ℕ) → Numbers t.now index i → ⊥) (Numbers t.now index) }
+{
+    let i = usize::try_from(index).ok()?;
+    (size_right(t) && i < records(t)).then_some(i)
+}
+
+// The place of the record that a word numbers, or an empty one.
 pub fn place(t: &[i32], index: i32) -> Part
     ensures { Places t.now index result.at result.len }
 {
-    if size_right(t) {
-        let n = ruler::at(index);
-        if ZERO <= n {
-            let i = (n - ZERO) as usize;
-            if i < records(t) {
-                return Part {
-                    at: WIDTH * i,
-                    len: WIDTH,
-                };
-            }
-        }
+    match numbered(t, index) {
+        Some(i) => Part {
+            at: WIDTH * i,
+            len: WIDTH,
+        },
+        None => Part { at: 0, len: 0 },
     }
-    Part { at: 0, len: 0 }
 }

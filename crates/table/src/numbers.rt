@@ -13,6 +13,7 @@ pub const LOW: u64 = ZERO - 16777216;
 
 pub const HIGH: u64 = ZERO + 16777216;
 
+// The kinds are numbers and no enum: they are the words of the lent table, and `Tile` of geometry's specs/Picture and `Forms` state them as those words.
 pub const FREE: u64 = ZERO;
 
 pub const SPACE: u64 = ZERO + 1;

@@ -1,10 +1,10 @@
 -- 01's and 02's tables of answers: each number by its name, and what an answer carries. Assumes nothing.
-use Rattle.std.specs.Prelude.{ℕ, pos, negsuc, ℤ}
+use Rattle.std.specs.Prelude.{ℕ, pos, negsuc, ℤ, Result, Ok, Err}
 use Rattle.ushanderi.specs.declared.answer.Answer.{Answer}
 use Rattle.ushanderi.specs.declared.answer.MetAnswer.{MetAnswer}
 use Rattle.seek.specs.Meaning.{Area}
-use Rattle.ushanderi.specs.declared.reading.Found.TheVariants.{At, Point, Size, Unsound}
-use Rattle.ushanderi.specs.declared.reading.Found.{Found}
+use Rattle.ushanderi.specs.declared.answer.Refusal.TheVariants as Refusals
+use Rattle.ushanderi.specs.declared.answer.Refusal.{Refusal}
 use Rattle.ruler.specs.Ruler.{ruler, word}
 use Rattle.density.specs.Shares.{float}
 use Rattle.density.specs.declared.windows.Report.{Report}
@@ -62,6 +62,21 @@ accepted value = answered DONE value
 abbrev pub refused : ℕ → Answer
 refused number = answered number 0
 
+-- the number of each refusal
+abbrev pub number_of : Refusal → ℕ
+number_of Refusals.Size = SIZE
+number_of Refusals.Unsound = UNSOUND
+number_of Refusals.Point = POINT
+number_of Refusals.Rect = RECT
+number_of Refusals.Label = LABEL
+number_of Refusals.Occupied = OCCUPIED
+number_of Refusals.Full = FULL
+number_of Refusals.Space = SPACE
+number_of Refusals.Side = SIDE
+number_of Refusals.Short = SHORT
+number_of Refusals.File = FILE
+number_of Refusals.Step = STEP
+
 -- area search's value where the rectangle is free: -1
 abbrev pub nothing : Answer
 nothing = record { number = pos DONE; value = negsuc 0 }
@@ -83,12 +98,10 @@ reported windows r =
 abbrev pub unreported : Answer → DensityAnswer
 unreported a = record { number = a.number; value = a.value; lowest = float 0; highest = float 0; covered = pos 0 }
 
--- the number and the value of each case of a find
-abbrev pub found_answer : Found → Answer
-found_answer (At i) = accepted i
-found_answer Size = refused SIZE
-found_answer Unsound = refused UNSOUND
-found_answer Point = refused POINT
+-- the number and the value of each case: a find's record, or a refusal
+abbrev pub answer_of : Result ℕ Refusal → Answer
+answer_of (Ok value) = accepted value
+answer_of (Err r) = refused (number_of r)
 
 -- the four words of a rectangle on the ruler
 abbrev pub ruler_area : ℤ → ℤ → ℤ → ℤ → Area

@@ -1,5 +1,5 @@
 -- The calls that change a plane: what a decision and an act of a create or a delete give, and how the edits of a sound table give the promises. Assumes nothing.
-use Rattle.std.specs.Prelude.{◌≡◌, refl, ◌≢◌, List, ℕ, ◌+◌, ◌≤◌, ◌<◌, ◌^◌, ℤ, pos, length}
+use Rattle.std.specs.Prelude.{◌≡◌, refl, ◌≢◌, List, ℕ, ◌+◌, ◌≤◌, ◌<◌, ◌^◌, ℤ, pos, length, Result, Ok, Err}
 use Rattle.std.proofs.Common.{sym, ap, ◌∙◌, subst₂, arith, eq-eqb, ne_eqb, SFits, to_z, of_z}
 use Rattle.std.specs.Int.{w32}
 use Rattle.ruler.specs.Ruler.{ruler, ruler_bits}
@@ -19,42 +19,37 @@ use Rattle.edit.specs.Tidy.{SameTile}
 use Rattle.edit.specs.Create.{CanLay, Creates, creates_new}
 use Rattle.edit.specs.Delete.{Deletes, CanShrink}
 use Rattle.edit.proofs.Shrink.{shrink_room}
-use Rattle.ushanderi.specs.Answers.{SIZE, UNSOUND, RECT, LABEL, OCCUPIED, FULL, accepted, found_answer}
+use Rattle.ushanderi.specs.Answers.{SIZE, UNSOUND, RECT, LABEL, OCCUPIED, FULL, accepted, answer_of}
 use Rattle.ushanderi.specs.Edits.{drawn, Adds, Removes, Edited, label_in}
 use Rattle.ushanderi.specs.Promises.{Unfit, Fit, FindSays, CreateRefuses, CreateAllows, CreateDone, CreateSays, DeleteRefuses, DeleteAllows, DeleteSays}
 use Rattle.ushanderi.specs.Reading.{fit_forms, low_record, NotFound, found_at}
 use Rattle.ushanderi.specs.declared.answer.Answer.{Answer}
 use Rattle.ushanderi.specs.declared.answer.MetAnswer.{MetAnswer}
-use Rattle.ushanderi.specs.declared.reading.Found.{Found}
-use Rattle.ushanderi.specs.declared.editing.MayCreate.{MayCreate}
-use Rattle.ushanderi.specs.declared.editing.MayCreate.TheVariants as MayCreates
-use Rattle.ushanderi.specs.declared.editing.Created.{Created}
-use Rattle.ushanderi.specs.declared.editing.Created.TheVariants as Createds
-use Rattle.ushanderi.specs.declared.editing.MayDelete.{MayDelete}
-use Rattle.ushanderi.specs.declared.editing.MayDelete.TheVariants as MayDeletes
+use Rattle.ushanderi.specs.declared.answer.Refusal.{Refusal}
 
 -- ---- what a decision says, and what comes of a create
 
-abbrev pub CreateDecides : List ℤ → Area → ℕ → MayCreate → Type 0
-CreateDecides t A label (MayCreates.Refused a) = CreateRefuses t A label a
-CreateDecides t A label (MayCreates.Go k) = UsedIn t k × CreateAllows t A label
+-- a decision: the refusal as it goes out, or the tile at which the search ended, where the new solid begins
+abbrev pub CreateDecides : List ℤ → Area → ℕ → Result ℕ MetAnswer → Type 0
+CreateDecides t A label (Err a) = CreateRefuses t A label a
+CreateDecides t A label (Ok k) = UsedIn t k × CreateAllows t A label
 
-abbrev pub CreateEnds : List ℤ → Area → ℕ → List ℤ → Created → Type 0
-CreateEnds t A label t' (Createds.At k) = CreateDone t A label t' k
-CreateEnds t A label t' (Createds.Refused a) = CreateRefuses t A label a × (t' ≡ t)
+abbrev pub CreateEnds : List ℤ → Area → ℕ → List ℤ → Result ℕ MetAnswer → Type 0
+CreateEnds t A label t' (Ok k) = CreateDone t A label t' k
+CreateEnds t A label t' (Err a) = CreateRefuses t A label a × (t' ≡ t)
 
-abbrev pub DeleteDecides : List ℤ → ℕ → ℕ → MayDelete → Type 0
-DeleteDecides t x y (MayDeletes.Refused a) = DeleteRefuses t x y a
-DeleteDecides t x y (MayDeletes.Go i) = DeleteAllows t x y i
+abbrev pub DeleteDecides : List ℤ → ℕ → ℕ → Result ℕ Answer → Type 0
+DeleteDecides t x y (Err a) = DeleteRefuses t x y a
+DeleteDecides t x y (Ok i) = DeleteAllows t x y i
 
 -- a create's refusal has a number from 1 on
-pub record Refusal (a : MetAnswer) : Type 0 where
+pub record Refuses (a : MetAnswer) : Type 0 where
   pub number : ℕ
   pub is : a.number ≡ pos number
   pub some : 0 < number
   pub low : number < 2 ^ 31
 
-pub refusal : (t : List ℤ) (A : Area) (label : ℕ) (a : MetAnswer) → CreateRefuses t A label a → Refusal a
+pub refusal : (t : List ℤ) (A : Area) (label : ℕ) (a : MetAnswer) → CreateRefuses t A label a → Refuses a
 refusal t A label a (CreateRefuses.unfit b (Unfit.size s e) w) =
     record { number = SIZE; is = ap (λ a. a.number) w ∙ ap (λ a. a.number) e; some = omega arith; low = omega arith }
 refusal t A label a (CreateRefuses.unfit b (Unfit.unsound s n e) w) =
@@ -68,6 +63,9 @@ refusal t A label a (CreateRefuses.full f r l h c e) = record { number = FULL; i
 
 pub create_same : {t t' : List ℤ} {A B : Area} {l m : ℕ} {a : MetAnswer} → A ≡ B → l ≡ m → CreateSays t A l t' a → CreateSays t B m t' a
 create_same {t} {t'} {A} {B} {l} {m} {a} p q s = subst₂ (λ A l. CreateSays t A l t' a) p q s
+
+pub ends_same : (t t' : List ℤ) {A B : Area} {l m : ℕ} (e : Result ℕ MetAnswer) → A ≡ B → l ≡ m → CreateEnds t A l t' e → CreateEnds t B m t' e
+ends_same t t' {A} {B} {l} {m} e p q s = subst₂ (λ A l. CreateEnds t A l t' e) p q s
 
 -- the record of a new solid is a word's
 pub done_low : (t : List ℤ) (A : Area) (label : ℕ) (t' : List ℤ) (k : ℕ) → CreateDone t A label t' k → k < 2 ^ 31
@@ -192,7 +190,7 @@ pub taken_says : (t : List ℤ) (x y i : ℕ) (t' : List ℤ) (label : ℕ) → 
 taken_says t x y i t' label a k = DeleteSays.done i (record { allows = a; edited = k.edited; removes = k.removes }) (ap accepted k.is)
 
 -- a find's refusal goes out unchanged
-pub refused_delete : (t : List ℤ) (x y : ℕ) (f : Found) → FindSays t x y (found_answer f) → NotFound f → DeleteRefuses t x y (found_answer f)
+pub refused_delete : (t : List ℤ) (x y : ℕ) (f : Result ℕ Refusal) → FindSays t x y (answer_of f) → NotFound f → DeleteRefuses t x y (answer_of f)
 refused_delete t x y f (FindSays.unfit u) n = DeleteRefuses.unfit u
 refused_delete t x y f (FindSays.point h p e) n = DeleteRefuses.point h p e
 refused_delete t x y f (FindSays.done h i k e) n = absurd (n i (found_at f i e))

@@ -1,5 +1,5 @@
 -- The calls on saved layouts: how the save of a sound table and the creates of a load give the promises. Assumes nothing.
-use Rattle.std.specs.Prelude.{◌≡◌, refl, List, ℕ, ◌+◌, ◌*◌, ◌/◌, ◌%◌, ◌≤◌, ◌<◌, ◌^◌, ℤ, pos, length}
+use Rattle.std.specs.Prelude.{◌≡◌, refl, List, ℕ, ◌+◌, ◌*◌, ◌/◌, ◌%◌, ◌≤◌, ◌<◌, ◌^◌, ℤ, pos, length, Result}
 use Rattle.std.proofs.Common.{sym, ap, ◌∙◌, subst, arith}
 use Rattle.table.specs.Words.{WIDTH, LEAST, MOST}
 use Rattle.table.specs.Sound.{SizeRight, UsedIn, Sound, solids_in}
@@ -16,7 +16,6 @@ use Rattle.ushanderi.specs.Promises.{Fit, CreateRefuses, CreateDone, SaveSays, a
 use Rattle.ushanderi.specs.Reading.{fit_forms}
 use Rattle.ushanderi.specs.Editing.{CreateEnds, refusal, adds_one}
 use Rattle.ushanderi.specs.declared.answer.MetAnswer.{MetAnswer}
-use Rattle.ushanderi.specs.declared.editing.Created.{Created}
 
 -- ---- save
 
@@ -93,7 +92,7 @@ module _ (t₀ : List ℤ) (bs : List ℕ) (t : List ℤ) (from n : ℕ) (l : Lo
       (q ∙ ap fresh_table (l.size ∙ e))
 
 -- the record read is the file's
-pub load_ends_one : (u : List ℤ) (bs : List ℕ) (n : ℕ) (u' : List ℤ) (c : Created) (s : Saved) → s ≡ saved_at bs n
+pub load_ends_one : (u : List ℤ) (bs : List ℕ) (n : ℕ) (u' : List ℤ) (c : Result ℕ MetAnswer) (s : Saved) → s ≡ saved_at bs n
     → CreateEnds u (record { left = s.left; bottom = s.bottom; right = s.right; top = s.top }) s.label u' c
     → CreateEnds u (area_in bs n) (saved_at bs n).label u' c
 load_ends_one u bs n u' c s e h =

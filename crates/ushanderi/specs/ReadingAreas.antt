@@ -4,14 +4,10 @@ use Rattle.std.proofs.Common.{ap, ◌∙◌, subst, arith, SFits, to_z, of_z}
 use Rattle.std.specs.Int.{w32}
 use Rattle.ruler.specs.Ruler.{ruler, ruler_bits}
 use Rattle.table.specs.Sound.{SizeRight}
-use Rattle.seek.specs.Meaning.{Area, RectRight, Directed}
-use Rattle.seek.specs.Search.{Searches, nothing, solid, searches_met}
+use Rattle.seek.specs.Meaning.{Area, RectRight, First, Directed}
 use Rattle.seek.specs.Writing.{writes_whole}
 use Rattle.seek.specs.Enumerate.{WritesArea, CountsArea, counts_area_short}
-use Rattle.seek.specs.declared.area.Seen.{Seen}
-use Rattle.seek.specs.declared.area.Seen.TheVariants as Seens
-use Rattle.ushanderi.specs.Answers
-use Rattle.ushanderi.specs.Answers.{SHORT, accepted, answered, with_cell, without_cell, ruler_area}
+use Rattle.ushanderi.specs.Answers.{SHORT, accepted, answered, ruler_area}
 use Rattle.ushanderi.specs.Promises.{Fit, SearchSays, EnumerateSays}
 use Rattle.ushanderi.specs.declared.answer.Answer.{Answer}
 use Rattle.ushanderi.specs.declared.answer.MetAnswer.{MetAnswer}
@@ -31,27 +27,15 @@ area_bits left bottom right top f g h k =
 
 -- ---- area search
 
--- the number, the value and the cell of each case
-abbrev pub seen_answer : Seen → MetAnswer
-seen_answer (Seens.Nothing k) = without_cell Answers.nothing
-seen_answer (Seens.Solid i x y) = with_cell (accepted i) x y
-
-pub searches_says : (t : List ℤ) (A : Area) (s : Seen) → Fit t → RectRight A → Searches t A s → SearchSays t A (seen_answer s)
-searches_says t A s f r (nothing h u) = SearchSays.free f r h refl
-searches_says t A s f r (solid {i} {x} {y} h) = SearchSays.met f r x y i h refl
-
 pub search_same : {t : List ℤ} {A B : Area} {a : MetAnswer} → A ≡ B → SearchSays t A a → SearchSays t B a
 search_same {t} {A} {B} {a} e s = subst (λ A. SearchSays t A a) e s
 
-pub searches_low : (t : List ℤ) (A : Area) (s : Seen) (i x y : ℕ) → SizeRight t → Searches t A s → s ≡ Seens.Solid i x y → i < 2 ^ 31
-searches_low t A s i x y z (nothing h u) e = absurd (let z : ◌≡◌ {A = ℕ} 0 1 = cc in omega arith)
-searches_low t A s i x y z (solid {i = k} h) e = let d : k ≡ i = cc in low_record t i z (omega (arith, h.solid.below))
+-- the solid in the way and its cell are of words
+pub first_low : (t : List ℤ) (A : Area) (x y i : ℕ) → SizeRight t → First t A x y i → i < 2 ^ 31
+first_low t A x y i z h = low_record t i z (omega (arith, h.solid.below))
 
--- a cell of the area is of words
-pub searches_cell : (t : List ℤ) (A : Area) (s : Seen) (i x y : ℕ) → RectRight A → Searches t A s → s ≡ Seens.Solid i x y → (x < 2 ^ 32) × (y < 2 ^ 32)
-searches_cell t A s i x y r h e =
-    let f = searches_met t A s i x y h e in
-    (omega (arith, f.inside, r.to_right), omega (arith, f.inside, r.to_top))
+pub first_cell : (t : List ℤ) (A : Area) (x y i : ℕ) → RectRight A → First t A x y i → (x < 2 ^ 32) × (y < 2 ^ 32)
+first_cell t A x y i r f = (omega (arith, f.inside, r.to_right), omega (arith, f.inside, r.to_top))
 
 -- ---- enumeration
 

@@ -1,5 +1,5 @@
 -- Neighbours: how a find, the number of a side, the count and the list give the call's promise. Assumes nothing.
-use Rattle.std.specs.Prelude.{◌≡◌, refl, List, map, ℕ, ◌+◌, ◌-◌, ◌≤◌, ◌<◌, ◌^◌, ℤ, pos, length, drop, get_or}
+use Rattle.std.specs.Prelude.{◌≡◌, refl, List, map, ℕ, ◌+◌, ◌-◌, ◌≤◌, ◌<◌, ◌^◌, ℤ, pos, length, drop, get_or, Result}
 use Rattle.std.proofs.Common.{sym, ap, ◌∙◌, subst, subst₂, arith, length-append, length-drop, ext_get_or, get_or-append-add, get_or-drop, SFits, to_z, of_z, to_z-of_z}
 use Rattle.std.proofs.lemmas.List.{length-map}
 use Rattle.std.proofs.Math.ListN.{get_or-append, get_or-map}
@@ -16,14 +16,14 @@ use Rattle.seek.specs.Find.{Finds}
 use Rattle.seek.specs.Neighbours.{IsSide, side_of, Neighbours}
 use Rattle.seek.specs.Sides.{good, sees_is, neighbours_listed, neighbours_one}
 use Rattle.seek.specs.Listing.{Counts, Written, Lists}
-use Rattle.ushanderi.specs.Answers.{SHORT, accepted, answered, found_answer}
+use Rattle.ushanderi.specs.Answers.{SHORT, accepted, answered, answer_of}
 use Rattle.ushanderi.specs.Promises.{Fit, FindSays, listed, NeighboursSays}
 use Rattle.ushanderi.specs.declared.answer.Answer.{Answer}
-use Rattle.ushanderi.specs.declared.reading.Found.{Found}
+use Rattle.ushanderi.specs.declared.answer.Refusal.{Refusal}
 use Rattle.ushanderi.specs.Reading.{NotFound, found_at}
 
-pub refused_neighbours : (t : List ℤ) (x y : ℕ) (side : ℤ) (out : List ℤ) (f : Found) → FindSays t x y (found_answer f) → NotFound f
-    → NeighboursSays t x y side out out (found_answer f)
+pub refused_neighbours : (t : List ℤ) (x y : ℕ) (side : ℤ) (out : List ℤ) (f : Result ℕ Refusal) → FindSays t x y (answer_of f) → NotFound f
+    → NeighboursSays t x y side out out (answer_of f)
 refused_neighbours t x y side out f (FindSays.unfit u) n = NeighboursSays.unfit u refl
 refused_neighbours t x y side out f (FindSays.point h p e) n = NeighboursSays.point h p e refl
 refused_neighbours t x y side out f (FindSays.done h i k e) n = absurd (n i (found_at f i e))

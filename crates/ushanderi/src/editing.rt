@@ -7,46 +7,43 @@ ghost use Rattle.ushanderi.specs.Promises.{Fit, CreateAllows, CreateDone, Create
 ghost use Rattle.ushanderi.specs.Editing.{CreateDecides, CreateEnds, DeleteDecides, Ready, Taken};
 ghost use Rattle.ushanderi.specs.Answers.{ruler_area};
 
-use crate::answer::{
-    Answer, FULL, LABEL, MetAnswer, OCCUPIED, RECT, SPACE, answered, done, refused, with_cell,
-    without_cell,
-};
-use crate::entry::{Entry, admit, entry_answer};
-use crate::reading::{Found, area, find, found_answer};
+use crate::answer::{Answer, MetAnswer, Refusal, answer_of, done, refused_with, with_cell};
+use crate::entry::{admit, area};
+use crate::reading::find;
 use geometry::Paint;
-use seek::{Area, Seen};
+use seek::{Area, Rect};
 use table::numbers;
 
-// The refusal of a create as it goes out, or that it may go on: the search ended at this tile, where the new solid begins.
-#[derive(Clone, Copy)]
-enum MayCreate {
-    Refused(MetAnswer),
-    Go(usize),
-}
-
-// The decision on a table that is known to be sound and to have so many solids: 4, 5, 6, 7. The search starts at the tile `from`.
-fn may_create(t: &[i32], from: usize, area: Area, label: u64, solids: usize) -> MayCreate
+// The decision on a table that is known to be sound and to have so many solids: 4, 5, 6, 7. The tile at which the search ended, where the new solid
+// begins, or the refusal as it goes out. The search starts at the tile `from`. Area and label stay two values, as the promises name them.
+fn may_create(
+    t: &[i32],
+    from: usize,
+    area: Area,
+    label: u64,
+    solids: usize,
+) -> Result<usize, MetAnswer>
     requires { Ready t.now from label solids }
     ensures { CreateDecides t.now (area_of area) label result }
 {
-    if seek::rect_right(area) {
-        if label <= numbers::ZERO {
-            return MayCreate::Refused(without_cell(refused(LABEL)));
-        }
-        let s = seek::search(t, from, area.left, area.bottom, area.right, area.top);
-        match s {
-            Seen::Solid(i, x, y) => {
-                return MayCreate::Refused(with_cell(answered(OCCUPIED, i as u64), x, y));
-            }
-            Seen::Nothing(last) => {
-                if solids < table::capacity(t) {
-                    return MayCreate::Go(last);
-                }
-            }
-        }
-        return MayCreate::Refused(without_cell(refused(FULL)));
+    let rect = Rect::new(area).ok_or(Refusal::Rect)?;
+    if label <= numbers::ZERO {
+        return Err(MetAnswer::from(Refusal::Label));
     }
-    MayCreate::Refused(without_cell(refused(RECT)))
+    match seek::search(t, from, rect) {
+        Err(met) => Err(with_cell(
+            refused_with(Refusal::Occupied, met.tile as u64),
+            met.x,
+            met.y,
+        )),
+        Ok(last) => {
+            if solids < table::capacity(t) {
+                Ok(last)
+            } else {
+                Err(MetAnswer::from(Refusal::Full))
+            }
+        }
+    }
 }
 
 // The act, where the decision lets it go on: the new solid's record. Free records are sought near the record `near`.
@@ -60,10 +57,7 @@ fn draw(t: &mut [i32], near: usize, from: usize, area: Area, label: u64) -> usiz
         t,
         near,
         from,
-        area.left,
-        area.bottom,
-        area.right,
-        area.top,
+        area,
         Paint {
             kind: numbers::SOLID,
             label,
@@ -71,71 +65,65 @@ fn draw(t: &mut [i32], near: usize, from: usize, area: Area, label: u64) -> usiz
     )
 }
 
-// What came of a create: the new solid's record, or the refusal.
-#[derive(Clone, Copy)]
-pub(crate) enum Created {
-    At(usize),
-    Refused(MetAnswer),
-}
-
-// One create on a table that is known to be sound and to have so many solids: the decision, then the act.
+// One create on a table that is known to be sound and to have so many solids: the decision, then the act. The new solid's record.
 pub(crate) fn create_one(
     t: &mut [i32],
     from: usize,
     area: Area,
     label: u64,
     solids: usize,
-) -> Created
+) -> Result<usize, MetAnswer>
     requires { Ready t.old from label solids }
     ensures { CreateEnds t.old (area_of area) label t.new result }
 {
-    let d = may_create(t, from, area, label, solids);
-    match d {
-        MayCreate::Refused(a) => Created::Refused(a),
-        MayCreate::Go(last) => Created::At(draw(t, from, last, area, label)),
-    }
+    let last = may_create(t, from, area, label, solids)?;
+    Ok(draw(t, from, last, area, label))
 }
 
-pub fn create(t: &mut [i32], left: i32, bottom: i32, right: i32, top: i32, label: i32) -> MetAnswer
-    ensures { CreateSays t.old (ruler_area left bottom right top) (ruler label) t.new result }
+// A create on any table: the new solid's record, or the refusal as it goes out.
+fn create_any(
+    t: &mut [i32],
+    left: i32,
+    bottom: i32,
+    right: i32,
+    top: i32,
+    label: i32,
+) -> Result<usize, MetAnswer>
+    ensures { CreateEnds t.old (ruler_area left bottom right top) (ruler label) t.new result }
 {
-    let e = admit(t);
-    let Entry::Sound(solids) = e else {
-        return without_cell(entry_answer(e));
-    };
+    let solids = admit(t)?;
     let from = seek::first_used(t);
-    let c = create_one(
+    create_one(
         t,
         from,
         area(left, bottom, right, top),
         ruler::at(label),
         solids,
-    );
-    match c {
-        Created::At(k) => without_cell(done(k as u64)),
-        Created::Refused(a) => a,
+    )
+}
+
+pub fn create(t: &mut [i32], left: i32, bottom: i32, right: i32, top: i32, label: i32) -> MetAnswer
+    ensures { CreateSays t.old (ruler_area left bottom right top) (ruler label) t.new result }
+{
+    match create_any(t, left, bottom, right, top, label) {
+        Ok(k) => MetAnswer::from(done(k as u64)),
+        Err(refusal) => refusal,
     }
 }
 
-// The solid that a delete takes away, or the refusal as it goes out.
-#[derive(Clone, Copy)]
-enum MayDelete {
-    Refused(Answer),
-    Go(usize),
-}
-
-// The decision: 1, 2, 3, 8. 12 never holds: a sound table has a free record.
-fn may_delete(t: &[i32], x: i32, y: i32) -> MayDelete
+// The decision: 1, 2, 3, 8. 12 never holds: a sound table has a free record. The solid to take away, or the refusal as it goes out.
+fn may_delete(t: &[i32], x: i32, y: i32) -> Result<usize, Answer>
     ensures { DeleteDecides t.now (ruler x) (ruler y) result }
 {
     let f = find(t, x, y, 0);
-    let Found::At(i) = f else {
-        return MayDelete::Refused(found_answer(f));
+    let Ok(i) = f else {
+        return Err(answer_of(f));
     };
     if table::word(t, i, numbers::KIND) == numbers::SOLID {
-        return MayDelete::Go(i);
+        Ok(i)
+    } else {
+        Err(Answer::from(Refusal::Space))
     }
-    MayDelete::Refused(refused(SPACE))
 }
 
 // The act: the label of the solid taken away.
@@ -152,9 +140,8 @@ fn remove(t: &mut [i32], i: usize) -> u64
 pub fn delete(t: &mut [i32], x: i32, y: i32) -> Answer
     ensures { DeleteSays t.old (ruler x) (ruler y) t.new result }
 {
-    let d = may_delete(t, x, y);
-    match d {
-        MayDelete::Refused(a) => a,
-        MayDelete::Go(i) => done(remove(t, i)),
+    match may_delete(t, x, y) {
+        Ok(i) => done(remove(t, i)),
+        Err(refusal) => refusal,
     }
 }

@@ -1,40 +1,45 @@
-// The checks 1 and 2, which every call but fresh, view and load runs first.
+// What the calls check first: 1 and 2 every call but fresh, view and load; then 4 the calls on a rectangle.
 ghost use Rattle.std.specs.Prelude.{◌≡◌};
-ghost use Rattle.ushanderi.specs.Entry.{Admits, entry_answer, FewSolids};
+ghost use Rattle.seek.specs.Enumerate.{area_of};
+ghost use Rattle.ushanderi.specs.Answers.{ruler_area};
+ghost use Rattle.ushanderi.specs.Entry.{Admits, AdmitsRect};
 
-use crate::answer::{Answer, SIZE, UNSOUND, done, refused};
+use crate::answer::Refusal;
+use seek::{Area, Rect};
 
-#[derive(Clone, Copy)]
-pub(crate) enum Entry {
-    Size,
-    Unsound,
-    Sound(usize),
-}
-
-// What keeps the table from being worked on, or how many solids it has.
-pub(crate) fn admit(t: &[i32]) -> Entry
+// How many solids the table has, or what keeps it from being worked on.
+pub(crate) fn admit(t: &[i32]) -> Result<usize, Refusal>
     ensures { Admits t.now result }
 {
     if table::size_right(t) {
-        let v = sound::check(t);
-        if v.sound {
-            Entry::Sound(v.solids)
-        } else {
-            Entry::Unsound
-        }
+        sound::check(t).ok_or(Refusal::Unsound)
     } else {
-        Entry::Size
+        Err(Refusal::Size)
     }
 }
 
-// What the checks 1 and 2 found, by its number and value.
-pub(crate) fn entry_answer(e: Entry) -> Answer
-    requires { FewSolids e }
-    ensures { result ≡ entry_answer e }
+// Four words as an area: four, since C and the promises hand them on so.
+pub(crate) fn area(left: i32, bottom: i32, right: i32, top: i32) -> Area
+    ensures { area_of result ≡ ruler_area left bottom right top }
 {
-    match e {
-        Entry::Size => refused(SIZE),
-        Entry::Unsound => refused(UNSOUND),
-        Entry::Sound(solids) => done(solids as u64),
+    Area {
+        left: ruler::at(left),
+        bottom: ruler::at(bottom),
+        right: ruler::at(right),
+        top: ruler::at(top),
     }
+}
+
+// The rectangle to work on, on a table that can be worked on.
+pub(crate) fn admit_rect(
+    t: &[i32],
+    left: i32,
+    bottom: i32,
+    right: i32,
+    top: i32,
+) -> Result<Rect, Refusal>
+    ensures { AdmitsRect t.now (ruler_area left bottom right top) result }
+{
+    admit(t)?;
+    Rect::new(area(left, bottom, right, top)).ok_or(Refusal::Rect)
 }

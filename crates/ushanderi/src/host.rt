@@ -1,10 +1,11 @@
-// The same calls by C names: each does what the call of its name does, and its contract is that call's promise. The crate `ushanderi_c` exports them.
+// The same calls by C names: each does what the call of its name does, and its contract is that call's promise. The crate `ushanderi_c` exports them, since no
+// crate can rest on one that exports.
 ghost use Rattle.ruler.specs.Ruler.{length_of, ruler};
 ghost use Rattle.table.specs.View.{Places};
 ghost use Rattle.ushanderi.specs.Promises.{FreshSays, CheckSays, FindSays, NeighboursSays, SearchSays, EnumerateSays, DensitySays, CreateSays, DeleteSays, SaveSays, LoadSays};
 ghost use Rattle.ushanderi.specs.Answers.{ruler_area};
 
-use crate::answer::{Answer, MetAnswer};
+use crate::answer::{Answer, MetAnswer, answer_of};
 use crate::reports::DensityAnswer;
 use crate::{editing, layouts, plane, reading, reports};
 use table::Part;
@@ -31,8 +32,7 @@ pub fn ush_view(t: &[i32], index: i32) -> Part
 pub fn ush_find(t: &[i32], x: i32, y: i32, hint: i32) -> Answer
     ensures { FindSays t.now (ruler x) (ruler y) result }
 {
-    let f = reading::find(t, x, y, hint);
-    reading::found_answer(f)
+    answer_of(reading::find(t, x, y, hint))
 }
 
 pub fn ush_neighbours(t: &[i32], x: i32, y: i32, side: i32, out: &mut [i32]) -> Answer

@@ -6,9 +6,9 @@ ghost use Rattle.ushanderi.specs.Promises.{Fit, SaveSays, area_in, LoadSays};
 ghost use Rattle.ushanderi.specs.Editing.{CreateEnds};
 ghost use Rattle.ushanderi.specs.Answers.{without_cell};
 
-use crate::answer::{Answer, FILE, MetAnswer, SHORT, SIZE, answered, done, refused, without_cell};
-use crate::editing::{Created, create_one};
-use crate::entry::{Entry, admit, entry_answer};
+use crate::answer::{Answer, MetAnswer, Refusal, done, refused_with};
+use crate::editing::create_one;
+use crate::entry::admit;
 use layout::SAVED;
 use seek::Area;
 
@@ -20,7 +20,7 @@ fn save_in(t: &[i32], out: &mut [u8], solids: usize) -> Answer
 {
     let need = SAVED * solids;
     if out.len() < need {
-        return answered(SHORT, need as u64);
+        return refused_with(Refusal::Short, need as u64);
     }
     let written = layout::save(t, out);
     done(written as u64)
@@ -29,15 +29,14 @@ fn save_in(t: &[i32], out: &mut [u8], solids: usize) -> Answer
 pub fn save(t: &[i32], out: &mut [u8]) -> Answer
     ensures { SaveSays t.now out.old out.new result }
 {
-    let e = admit(t);
-    let Entry::Sound(solids) = e else {
-        return entry_answer(e);
-    };
-    save_in(t, out, solids)
+    match admit(t) {
+        Ok(solids) => save_in(t, out, solids),
+        Err(refusal) => Answer::from(refusal),
+    }
 }
 
 // The create for record n of a file, on a table that holds the n records before it.
-fn load_one(t: &mut [i32], bytes: &[u8], from: usize, n: usize) -> Created
+fn load_one(t: &mut [i32], bytes: &[u8], from: usize, n: usize) -> Result<usize, MetAnswer>
     requires fit { Fit t.old }
     requires used_in { UsedIn t.old from }
     requires n_value { n ≡ solids_in t.old }
@@ -60,10 +59,10 @@ fn stopped(refusal: MetAnswer, n: u64) -> MetAnswer
     ensures { result ≡ without_cell (record { number = refusal.number; value = pos n }) }
 {
     MetAnswer {
-        number: refusal.number,
         value: ruler::count(n),
         x: 0,
         y: 0,
+        ..refusal
     }
 }
 
@@ -76,30 +75,26 @@ fn load_all(t: &mut [i32], bytes: &[u8]) -> MetAnswer
     table::fresh(t);
     let count = bytes.len() / SAVED;
     let mut from: usize = 0;
-    let mut n: usize = 0;
-    while n < count {
-        let c = load_one(t, bytes, from, n);
-        match c {
-            Created::At(k) => from = k,
-            Created::Refused(a) => {
+    for n in 0..count {
+        match load_one(t, bytes, from, n) {
+            Ok(k) => from = k,
+            Err(refusal) => {
                 table::fresh(t);
-                return stopped(a, n as u64);
+                return stopped(refusal, n as u64);
             }
         }
-        n += 1;
     }
-    without_cell(done(n as u64))
+    MetAnswer::from(done(count as u64))
 }
 
 pub fn load(t: &mut [i32], bytes: &[u8]) -> MetAnswer
     ensures { LoadSays t.old bytes.now t.new result }
 {
-    if table::size_right(t) {
-        if bytes.len() % SAVED != 0 {
-            return without_cell(refused(FILE));
-        }
-        load_all(t, bytes)
-    } else {
-        without_cell(refused(SIZE))
+    if !table::size_right(t) {
+        return MetAnswer::from(Refusal::Size);
     }
+    if bytes.len() % SAVED != 0 {
+        return MetAnswer::from(Refusal::File);
+    }
+    load_all(t, bytes)
 }

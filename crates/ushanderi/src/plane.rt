@@ -1,8 +1,8 @@
 // Fresh, check and view, each with its promise as its whole contract.
 ghost use Rattle.ushanderi.specs.Promises.{FreshSays, CheckSays, ViewSays};
 
-use crate::answer::{Answer, SIZE, done, refused};
-use crate::entry::{admit, entry_answer};
+use crate::answer::{Answer, Refusal, answer_of, done};
+use crate::entry::admit;
 
 pub fn fresh(t: &mut [i32]) -> Answer
     ensures { FreshSays t.old t.new result }
@@ -11,15 +11,14 @@ pub fn fresh(t: &mut [i32]) -> Answer
         table::fresh(t);
         done(0)
     } else {
-        refused(SIZE)
+        Answer::from(Refusal::Size)
     }
 }
 
 pub fn check(t: &[i32]) -> Answer
     ensures { CheckSays t.now result }
 {
-    let e = admit(t);
-    entry_answer(e)
+    answer_of(admit(t))
 }
 
 pub fn view(t: &[i32], index: i32) -> &[i32]

@@ -1,4 +1,4 @@
-use borrow.Author.Rules.{sfits_of}
+use borrow.Author.Rules.{rules}
 use mathlib.Core.Path.{◌≡◌, sym, ap, subst, ◌∙◌}
 use Prim.Native.Nat.{◌+◌, ◌*◌, ◌<◌}
 use lib.IntN.{pos}
@@ -17,8 +17,8 @@ returns c =
     let n = c.args.n in
     let w = c.word_at-w.result in
     let x = get_or c.args.t.now (10 * c.args.i + c.args.k) (pos 0) in
-    let fw : SFits w32 w = record { sfits = c.word_at-w.type_inv } in
-    let fx : SFits w32 x = sfits_of c.result-1.given in
+    let fw : SFits w32 w = search rules in
+    let fx : SFits w32 x = search rules in
     let e : ruler w ≡ n = ap ruler c.word_at-w.ensures ∙ ruler_word n c.requires.1 in
     rw (to_z-of_z fw, to_z-of_z fx) (
       λ h. subst (λ m. m < ruler x) e (ruler_lt w x fw fx (lt_z_yes h)),

@@ -1,32 +1,12 @@
--- `density::counts::clear` meets its contract: the first i entries are 0.0. Assumes nothing.
-use mathlib.Core.Path.{◌≡◌, subst}
-use Prim.Native.Nat.{◌<◌}
-use native.Mathlib.Omega.{arith}
-use lib.ListN.{length}
+-- `density::counts::clear` meets its contract. Assumes nothing.
+use Rattle.std.proofs.Common.{refl, ◌∙◌, arith, length-take-le}
+use Rattle.density.specs.Shares.{float}
 use Rattle.density.specs.ShareLaws.{zero_is}
-use Rattle.density.specs.Counts.{Counts, counts_none, counts_next}
+use Rattle.density.specs.Counts.{counts_front}
 use Rattle.density.proofs.counts.clear.Goals as goal
-
-below : (c : goal.In-loop-i) → c.loop-i.i < length c.loop-i.out
-below c = omega (arith, c.requires, c.loop-i.invariant.1.long)
-
-pub loop-i-init : goal.loop-i-init
-loop-i-init c = (omega arith, counts_none _ _)
-
-pub bounds-out-i : goal.bounds-out-i
-bounds-out-i c = below c
-
-pub loop-i-preserved : goal.loop-i-preserved
-loop-i-preserved c =
-    let l = c.loop-i in
-    (omega arith, counts_next _ l.out l.i (λ m. 0) _ l.invariant.1 (below c) zero_is)
-
-pub shape_of-out : goal.shape_of-out
-shape_of-out c = c.loop-i.invariant.1.long
 
 pub returns : goal.returns
 returns c =
-    let l = c.loop-i in
-    let a = c.args in
-    let e : l.i ≡ a.n = omega (arith, l.invariant.0) in
-    subst (λ n. Counts a.out.now l.out n (λ m. 0)) e l.invariant.1
+    let e = length-take-le c.args.n c.args.out.now c.requires in
+    counts_front c.fill.new.self c.args.out.now c.args.n (c.fill.ensures.len ∙ e) c.requires (λ m. 0)
+    (λ m h. c.fill.ensures.clones m (float 0) (omega arith) refl ∙ zero_is)

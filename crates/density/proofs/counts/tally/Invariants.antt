@@ -1,10 +1,9 @@
--- `density::counts::tally` meets its contract: the first n windows are done. Assumes nothing.
-use Prim.Native.Nat.{◌-◌}
-use Rattle.density.specs.Tallying.{Tallying}
+-- `density::counts::tally` meets its contract: windows before the entry are done. Assumes nothing.
+use Rattle.seek.specs.Enumerate.{area_of}
+use Rattle.density.specs.Reporting.{Reporting}
 use Rattle.density.proofs.counts.tally.Given as goal
 
-abbrev pub invariant-loop-n : goal.invariant-loop-n
-invariant-loop-n l = Tallying l.t l.w l.h l.count l.initial.out l.out l.n l.lowest l.highest l.total
-
-abbrev pub decreases-loop-n : goal.decreases-loop-n
-decreases-loop-n l = l.count - l.n
+abbrev pub invariant-loop-entry : goal.invariant-loop-entry
+invariant-loop-entry l =
+    let v = l.fn.windows in
+    Reporting l.t (area_of v.rect.area) v.width v.height l.initial.entry-items l.entry-items l.entry-index l.lowest l.highest l.covered

@@ -11,4 +11,4 @@ pub returns-in-Filled : goal.returns-in-Filled
 returns-in-Filled c = let a = c.args in one_is ∙ share_by a.count a.cells Filled (cc)
 
 pub returns-in-Share : goal.returns-in-Share
-returns-in-Share c = let a = c.args in share_by a.count a.cells (Share c.in-Share.s) (cc)
+returns-in-Share c = let a = c.args in share_by a.count a.cells (Share c.in-Share.share) (cc)

@@ -4,7 +4,7 @@ use Rattle.edit.specs.Create.{Growing}
 use Rattle.edit.proofs.create.create.Given as goal
 
 abbrev pub invariant-loop-y : goal.invariant-loop-y
-invariant-loop-y l = Growing l.initial.t l.t l.k l.left l.bottom l.right l.top l.initial.y l.y l.ink
+invariant-loop-y l = Growing l.initial.t l.t l.k l.area.left l.area.bottom l.area.right l.area.top l.initial.y l.y l.ink
 
 abbrev pub decreases-loop-y : goal.decreases-loop-y
-decreases-loop-y l = l.top - l.y
+decreases-loop-y l = l.area.top - l.y

@@ -1,46 +1,31 @@
 -- `delete::shrink` meets its contract. Assumes nothing.
-use mathlib.Core.Path.{sym, subst}
-use Rattle.table.specs.Words.{TOP, num}
-use Rattle.edit.specs.Walls.{SpaceWall}
-use Rattle.edit.specs.Delete.{Takes, LeftOf, RightOf, shrink_tidy, shrink_cuttable, slab_takes, slab_left, slab_wall, slab_right, shrunk, shrunk_away}
+use Rattle.edit.specs.Delete.{shrink_tidy, shrink_cuttable, slab_left, slab_wall, slab_right, shrunk, shrunk_away}
 use Rattle.edit.proofs.delete.shrink.Goals as goal
 
-pub wall_of-wall-requires : goal.wall_of-wall-requires
-wall_of-wall-requires c =
-    record { forms = c.requires.forms; size_right = c.requires.size; c_bound = λ q. (c.highest-left.ensures.left.beside q).has.top }
+pub cut_off-slab-requires-clause-cuttable : goal.cut_off-slab-requires-clause-cuttable
+cut_off-slab-requires-clause-cuttable c = shrink_cuttable c.args.t.now c.args.i c.requires
 
-pub cut_off-slab-requires : goal.cut_off-slab-requires
-cut_off-slab-requires c =
-    record { cuttable = shrink_cuttable c.args.t.now c.args.i c.requires; i_bound = (c.highest-left.ensures.low, c.highest-left.ensures.high); left_of = c.highest-left.ensures.left }
+pub vacate-requires-clause-left_of : goal.vacate-requires-clause-left_of
+vacate-requires-clause-left_of c =
+    let d = shrink_tidy c.args.t.now c.args.i c.requires in
+    rw c.word-top.ensures.is (slab_left c.args.t.now c.cut_off-slab.new.t c.args.i c.cut_off-slab.result c.highest-s.result.left c.highest-s.result.row _ c.highest-s.result.row d c.cut_off-slab.ensures c.highest-s.ensures.left)
 
-pub vacate-requires : goal.vacate-requires
-vacate-requires c =
-    let t = c.args.t.now in
-    let i = c.args.i in
-    let d = shrink_tidy t i c.requires in
-    let p = num t i TOP in
-    let n = c.highest-left.result.left in
-    let m = c.highest-left.result.right in
-    let r = c.highest-left.result.row in
-    let q =
-    subst (λ p. Takes c.cut_off-slab.new.t c.cut_off-slab.result r p × (LeftOf c.cut_off-slab.new.t c.cut_off-slab.result n r p × (SpaceWall c.cut_off-slab.new.t n r c.wall_of-wall.result × RightOf c.cut_off-slab.new.t c.cut_off-slab.result m r p)))
-    (sym c.word-top.ensures.is) (
-      slab_takes t c.cut_off-slab.new.t i c.cut_off-slab.result r c.requires c.cut_off-slab.ensures c.highest-left.ensures.high,
-      (
-        slab_left t c.cut_off-slab.new.t i c.cut_off-slab.result n r p r d c.cut_off-slab.ensures c.highest-left.ensures.left,
-        (
-          slab_wall t c.cut_off-slab.new.t i c.cut_off-slab.result n r p r r c.wall_of-wall.result d c.requires.solid c.cut_off-slab.ensures c.highest-left.ensures.left c.wall_of-wall.ensures,
-          slab_right t c.cut_off-slab.new.t i c.cut_off-slab.result m r p r d c.cut_off-slab.ensures c.highest-left.ensures.right,
-        ),
-      ),
-    ) in
-    record { takes = q.0; left_of = q.1.0; space_wall = q.1.1.0; right_of = q.1.1.1 }
+pub vacate-requires-clause-space_wall : goal.vacate-requires-clause-space_wall
+vacate-requires-clause-space_wall c =
+    let d = shrink_tidy c.args.t.now c.args.i c.requires in
+    let r = c.highest-s.result.row in
+    slab_wall c.args.t.now c.cut_off-slab.new.t c.args.i c.cut_off-slab.result c.highest-s.result.left r _ r r c.wall_of-wall.result d c.requires.solid c.cut_off-slab.ensures c.highest-s.ensures.left c.wall_of-wall.ensures
+
+pub vacate-requires-clause-right_of : goal.vacate-requires-clause-right_of
+vacate-requires-clause-right_of c =
+    let d = shrink_tidy c.args.t.now c.args.i c.requires in
+    rw c.word-top.ensures.is (slab_right c.args.t.now c.cut_off-slab.new.t c.args.i c.cut_off-slab.result c.highest-s.result.right c.highest-s.result.row _ c.highest-s.result.row d c.cut_off-slab.ensures c.highest-s.ensures.right)
 
 pub returns-then-slab-i : goal.returns-then-slab-i
 returns-then-slab-i c =
-    shrunk_away c.args.t.now c.cut_off-slab.new.t c.args.i c.cut_off-slab.result c.highest-left.result.row c.requires c.cut_off-slab.ensures c.highest-left.ensures.high c.vacate.new.t c.vacate.ensures
-    c.records.result c.if-slab-i.true c.records.ensures
+    shrunk_away c.args.t.now c.cut_off-slab.new.t c.args.i c.cut_off-slab.result c.highest-s.result.row c.requires c.cut_off-slab.ensures c.highest-s.ensures.high c.vacate.new.t c.vacate.ensures
+    c.if-slab-i.true
 
-pub returns : goal.returns
-returns c =
-    shrunk c.args.t.now c.cut_off-slab.new.t c.args.i c.cut_off-slab.result c.highest-left.result.row c.requires c.cut_off-slab.ensures c.highest-left.ensures.high c.vacate.new.t c.vacate.ensures c.if-slab-i.false
+pub returns-else-slab-i : goal.returns-else-slab-i
+returns-else-slab-i c =
+    shrunk c.args.t.now c.cut_off-slab.new.t c.args.i c.cut_off-slab.result c.highest-s.result.row c.requires c.cut_off-slab.ensures c.highest-s.ensures.high c.vacate.new.t c.vacate.ensures c.if-slab-i.false

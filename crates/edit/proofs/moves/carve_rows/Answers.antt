@@ -3,28 +3,17 @@ use native.Mathlib.Omega.{arith}
 use Rattle.table.specs.Words.{LEFT, BOTTOM, RIGHT, num}
 use Rattle.edit.specs.Tidy.{solid_is}
 use Rattle.edit.specs.Walls.{wall_keeps}
-use Rattle.edit.specs.Carve.{cut_on, rows_trimmed}
+use Rattle.edit.specs.Carve.{rows_trimmed}
 use Rattle.edit.proofs.moves.carve_rows.Goals as goal
 
-pub carve_upper-requires : goal.carve_upper-requires
-carve_upper-requires c =
-    let r = c.requires.rows in
-    record { cuttable = c.requires.cuttable; shut = c.requires.shut; a_bound = (omega arith, omega arith) }
-
-pub carve_lower-requires : goal.carve_lower-requires
-carve_lower-requires c =
+pub carve_lower-requires-clause-wall_at : goal.carve_lower-requires-clause-wall_at
+carve_lower-requires-clause-wall_at c =
     let t = c.args.t.now in
     let a = c.args.a in
     let r = c.requires.rows in
     let x = c.carve_upper.ensures.trim in
     let wide = (c.requires.cuttable.tidy.whole.good.formed a (solid_is t a c.requires.cuttable.solid)).wide in
-    record {
-      cuttable = cut_on t c.carve_upper.new.t a a (num t a LEFT) (num t a BOTTOM)
-          (num t a RIGHT) c.args.top c.requires.cuttable x;
-      shut = c.carve_upper.ensures.shut;
-      a_bound = (omega (arith, r, x.bottom), omega (arith, r, x.top));
-      wall_at = λ h. wall_keeps t c.carve_upper.new.t a a c.args.bottom c.args.wall wide x.left x.keeps (c.requires.wall_at (omega (arith, h, x.bottom)));
-    }
+    λ h. wall_keeps t c.carve_upper.new.t a a c.args.bottom c.args.wall wide x.left x.keeps (c.requires.wall_at (omega (arith, h, x.bottom)))
 
 pub returns : goal.returns
 returns c =

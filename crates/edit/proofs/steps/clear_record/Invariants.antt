@@ -1,12 +1,7 @@
 -- `edit::steps::clear_record` meets its contract. The loop's invariant: the words before k are zeros, and no other record is touched. Assumes nothing.
-use Prim.Native.Nat.{◌-◌}
 use Rattle.geometry.specs.Picture.{ZERO}
-use Rattle.table.specs.Words.{WIDTH}
 use Rattle.edit.specs.Writes.{Filled}
 use Rattle.edit.proofs.steps.clear_record.Given as goal
 
 abbrev pub invariant-loop-k : goal.invariant-loop-k
 invariant-loop-k l = Filled l.initial.t l.t l.j (λ l. ZERO) l.k
-
-abbrev pub decreases-loop-k : goal.decreases-loop-k
-decreases-loop-k l = WIDTH - l.k

@@ -1,9 +1,6 @@
 -- `edit::steps::join` meets its contract: the law of the turned sides and of the words merged. Assumes nothing.
-use Rattle.edit.specs.Rejoin.{join_turn, join_merge, join_done}
+use Rattle.edit.specs.Rejoin.{join_merge, join_done}
 use Rattle.edit.proofs.steps.join.Goals as goal
-
-pub turn_sides-requires : goal.turn_sides-requires
-turn_sides-requires c = join_turn _ _ _ _ c.requires
 
 pub merge-requires : goal.merge-requires
 merge-requires c =

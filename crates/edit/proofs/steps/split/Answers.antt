@@ -2,14 +2,11 @@
 use Rattle.edit.specs.Restitch.{split_left, split_beside}
 use Rattle.edit.proofs.steps.split.Goals as goal
 
-pub walk_up-kl-requires : goal.walk_up-kl-requires
-walk_up-kl-requires c =
+pub walk-kl-requires : goal.walk-kl-requires
+walk-kl-requires c =
     split_left _ _ _ _ _ c.requires _ c.follow-left.ensures
 
-pub split_at-requires : goal.split_at-requires
-split_at-requires c =
+pub split_at-requires-clause-beside_cut : goal.split_at-requires-clause-beside_cut
+split_at-requires-clause-beside_cut c =
     let h = c.requires in
-    record { splits = h; beside_cut = split_beside _ _ _ _ _ h _ _ c.follow-left.ensures c.walk_up-kl.ensures }
-
-pub returns : goal.returns
-returns c = c.split_at.ensures
+    split_beside _ _ _ _ _ h _ _ c.follow-left.ensures c.walk-kl.ensures

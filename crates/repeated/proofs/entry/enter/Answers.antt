@@ -1,23 +1,22 @@
--- `entry::enter` meets its contract: each return is one case. Assumes nothing.
-use mathlib.Core.Path.{refl, sym, subst}
-use lib.Dec.{T}
+-- `entry::enter` meets its contract. Assumes nothing.
+use mathlib.Core.Path.{refl}
+use mathlib.Core.List.{List}
+use Prim.Native.Nat.{ℕ}
+use lib.IntN.{ℤ}
+use Rattle.std.specs.Prelude.{Option, Some, None, ok_or}
 use Rattle.geometry.specs.Cases.{yes, no}
-use Rattle.repeated.specs.Entry.{Unfit, Enters}
+use Rattle.table.specs.Sound.{SizeRight}
+use Rattle.sound.specs.Verdict.{Checks}
+use Rattle.repeated.specs.Entry.{Unfit, Enters, refuses}
+use Rattle.repeated.specs.declared.answer.Refusal.TheVariants.{Unsound}
 use Rattle.repeated.proofs.entry.enter.Goals as goal
 
-pub check-v-requires : goal.check-v-requires
-check-v-requires c = yes c.size_right.ensures c.if-size_right.true
+enters : (t : List ℤ) (o : Option ℕ) → SizeRight t → Checks t o → Enters t (ok_or o Unsound)
+enters t (Some n) s v = (record { forms = v.sound.0 tt; size = s }, v.solids tt)
+enters t None s v = refuses (Unfit.unsound s v.sound.1 refl) refl
 
-pub returns-then-v : goal.returns-then-v
-returns-then-v c =
-    let v = c.check-v.ensures in
-    let k = subst T (sym c.if-v.true) tt in
-    Enters.fit (record { forms = v.sound.0 k; size = yes c.size_right.ensures c.if-size_right.true }) refl (v.solids k)
-
-pub returns-then-size_right : goal.returns-then-size_right
-returns-then-size_right c =
-    let v = c.check-v.ensures in
-    Enters.unfit (Unfit.unsound (yes c.size_right.ensures c.if-size_right.true) (no v.sound c.if-v.false) refl)
+pub returns-then-not-size_right : goal.returns-then-not-size_right
+returns-then-not-size_right c = refuses (Unfit.size (no c.size_right.ensures c.if-not-size_right.true) refl) refl
 
 pub returns : goal.returns
-returns c = Enters.unfit (Unfit.size (no c.size_right.ensures c.if-size_right.false) refl)
+returns c = rw c.ok_or.ensures.value (enters _ _ (yes c.size_right.ensures c.if-not-size_right.false) c.check.ensures)

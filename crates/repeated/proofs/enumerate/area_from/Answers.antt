@@ -1,5 +1,4 @@
 -- `enumerate::area_from` meets its contract: what is counted is what is listed, and it is at most the records. Assumes nothing.
-use mathlib.Core.Path.{refl}
 use Prim.Native.Nat.{◌≤◌}
 use native.Mathlib.Omega.{arith}
 use lib.ListN.{length}
@@ -8,12 +7,9 @@ use Rattle.seek.specs.Enumerate.{counts_area_one, counts_area_short}
 use Rattle.repeated.proofs.enumerate.area_from.Goals as goal
 use Rattle.repeated.proofs.enumerate.area_from.Goals.{then-list-records+else-list-n, else-list-records}
 
-pub returns-then-list-n : goal.returns-then-list-n
-returns-then-list-n c = let h = c.if-list-n.true in record { counts = c.count_area-n.ensures; short = λ g. refl; lists = λ g. absurd (omega arith) }
-
 pub returns : goal.returns
 returns c =
-    let f = c.requires.fit.forms in
+    let f = c.requires.forms in
     let n = writes_count _ _ _ _ c.list_area.ensures in
     let room : c.list_area.result ≤ length c.args.list.now =
     elim c.if-list-records.branch [

@@ -1,18 +1,14 @@
--- `find::find_often` meets its contract. The last run found the tile. Assumes nothing.
-use native.Mathlib.Omega.{arith}
+-- `find::find_often` meets its contract: each run found the tile. Assumes nothing.
+use mathlib.Core.Path.{◌≡◌, refl}
+use Rattle.std.proofs.Common.{rules}
+use Rattle.seek.specs.Find.{Finds}
+use Rattle.repeated.specs.Often.{often_gives}
+use Rattle.repeated.specs.contracts.find.fn.find_often.run as run
 use Rattle.repeated.proofs.find.find_often.Goals as goal
 
-pub loop-n-init : goal.loop-n-init
-loop-n-init c = c.find_from-k.ensures
-
-pub overflow_add-n : goal.overflow_add-n
-overflow_add-n c = omega arith
-
-pub loop-n-smaller : goal.loop-n-smaller
-loop-n-smaller c = omega arith
-
-pub loop-n-preserved : goal.loop-n-preserved
-loop-n-preserved c = c.find_from-k-in-loop-n.ensures
-
 pub returns : goal.returns
-returns c = c.loop-n.invariant
+returns c =
+    (often_gives _
+    (λ f. let s = run.captures f in (s.t.now ≡ c.args.t.now) × (s.cell ≡ c.args.cell))
+    (λ f k g. Finds c.args.t.now c.args.cell.x c.args.cell.y k)
+    (λ f h k g s o. search rules) (λ f j e k g a b. b) _ _ _ _ _ (refl, refl) c.often.ensures).1

@@ -1,30 +1,26 @@
--- `reports::density_often` meets its contract. The invariant: what is reported by the first run and then by the others is reported. Assumes nothing.
-use native.Mathlib.Omega.{arith}
-use mathlib.Core.Path.{refl, ◌∙◌}
+-- `reports::density_often` meets its contract: what is reported by runs before and then by one more is reported. Assumes nothing.
+use mathlib.Core.Path.{◌≡◌, refl}
+use denote.Param.Always.{mut_by}
+use Prim.Native.Nat.{◌≤◌}
+use lib.ListN.{length}
+use Rattle.std.proofs.Common.{rules}
+use Rattle.seek.specs.Enumerate.{area_of}
+use Rattle.density.specs.Meaning.{windows_of}
+use Rattle.density.specs.Report.{Reports}
 use Rattle.density.specs.Reporting.{report_from}
+use Rattle.repeated.specs.Often.{often_writes}
+use Rattle.repeated.specs.contracts.reports.fn.density_often.run as run
 use Rattle.repeated.proofs.reports.density_often.Goals as goal
 
-pub loop-n-init : goal.loop-n-init
-loop-n-init c = (refl, λ old s. s)
-
-pub overflow_add-n : goal.overflow_add-n
-overflow_add-n c = omega arith
-
-pub density_from-r-requires-in-loop-n : goal.density_from-r-requires-in-loop-n
-density_from-r-requires-in-loop-n c =
-    record { fit = c.requires.fit; rect_right = c.requires.rect_right; steps = c.requires.steps; h_in_bounds = omega (arith, c.requires.h_in_bounds, c.loop-n.invariant.0, c.density_from-r.ensures.written.long) }
-
-pub loop-n-smaller : goal.loop-n-smaller
-loop-n-smaller c = omega arith
-
-pub loop-n-preserved : goal.loop-n-preserved
-loop-n-preserved c =
-    let d = c.density_from-r-in-loop-n.ensures in
-    let i = c.loop-n.invariant in
-    (d.written.long ∙ i.0, λ old s. let e = (i.1 old s).written in report_from _ _ _ _ _ _ _ _ e.long e.rest d)
-
-pub shape_of-out : goal.shape_of-out
-shape_of-out c = omega (arith, c.loop-n.invariant.0, c.density_from-r.ensures.written.long)
+pub often-requires : goal.often-requires
+often-requires c =
+    mut_by _ (λ f. let s = run.captures f in (s.t.now ≡ c.args.t.now) × (s.windows ≡ c.args.windows) × (windows_of (area_of c.args.windows.rect.area) c.args.windows.width c.args.windows.height ≤ length s.out.now))
+    (λ f a i. search rules) (λ f a n e i s. search rules) _ (refl, refl, c.requires.windows_in_bounds)
 
 pub returns : goal.returns
-returns c = c.loop-n.invariant.1 _ c.density_from-r.ensures
+returns c =
+    let o = often_writes _
+    (λ f. let s = run.captures f in (s.t.now ≡ c.args.t.now) × (s.windows ≡ c.args.windows))
+    (λ f. (run.captures f).out) (Reports c.args.t.now (area_of c.args.windows.rect.area) c.args.windows.width c.args.windows.height)
+    (λ f h n g s o. search rules) (λ old mid new q r a b. report_from _ _ _ _ _ _ _ _ a.written.long a.written.rest b) _ _ _ _ _ (refl, refl) c.often.ensures in
+    search rules

@@ -1,31 +1,26 @@
--- `save::save_often` meets its contract. The invariant: what is saved by the first run and then by the others is saved. Assumes nothing.
-use native.Mathlib.Omega.{arith}
-use mathlib.Core.Path.{refl}
+-- `save::save_often` meets its contract: what is saved by runs before and then by one more is saved. Assumes nothing.
+use mathlib.Core.Path.{◌≡◌, refl}
+use denote.Param.Always.{mut_by}
+use Prim.Native.Nat.{◌≤◌, ◌*◌}
+use lib.ListN.{length}
+use Rattle.std.proofs.Common.{rules}
+use Rattle.table.specs.Sound.{solids_in}
+use Rattle.layout.specs.Bytes.{SAVED}
+use Rattle.layout.specs.Order.{Saves}
+use Rattle.repeated.specs.Often.{often_writes}
 use Rattle.repeated.specs.Runs.{saves_twice}
+use Rattle.repeated.specs.contracts.save.fn.save_often.run as run
 use Rattle.repeated.proofs.save.save_often.Goals as goal
 
-pub save-k-requires : goal.save-k-requires
-save-k-requires c =
-    record { forms = c.requires.fit.forms; size_right = c.requires.fit.size; t_in_bounds = c.requires.t_in_bounds }
-
-pub loop-n-init : goal.loop-n-init
-loop-n-init c = (refl, λ old s. s)
-
-pub overflow_add-n : goal.overflow_add-n
-overflow_add-n c = omega arith
-
-pub save-k-requires-in-loop-n : goal.save-k-requires-in-loop-n
-save-k-requires-in-loop-n c =
-    record { forms = c.requires.fit.forms; size_right = c.requires.fit.size; t_in_bounds = omega (arith, c.requires.t_in_bounds, c.loop-n.invariant.0, c.save-k.auto.out) }
-
-pub loop-n-smaller : goal.loop-n-smaller
-loop-n-smaller c = omega arith
-
-pub loop-n-preserved : goal.loop-n-preserved
-loop-n-preserved c = (omega (arith, c.loop-n.invariant.0, c.save-k-in-loop-n.auto.out), λ old s. saves_twice _ _ _ _ _ _ (c.loop-n.invariant.1 old s) c.save-k-in-loop-n.ensures)
-
-pub shape_of-bytes : goal.shape_of-bytes
-shape_of-bytes c = omega (arith, c.loop-n.invariant.0, c.save-k.auto.out)
+pub often-requires : goal.often-requires
+often-requires c =
+    mut_by _ (λ f. let s = run.captures f in (s.t.now ≡ c.args.t.now) × (SAVED * solids_in c.args.t.now ≤ length s.bytes.now))
+    (λ f a i. search rules) (λ f a n e i s. search rules) _ (refl, c.requires.t_in_bounds)
 
 pub returns : goal.returns
-returns c = c.loop-n.invariant.1 _ c.save-k.ensures
+returns c =
+    let o = often_writes _
+    (λ f. (run.captures f).t.now ≡ c.args.t.now)
+    (λ f. (run.captures f).bytes) (Saves c.args.t.now)
+    (λ f h n g s o. search rules) (saves_twice _) _ _ _ _ _ refl c.often.ensures in
+    search rules

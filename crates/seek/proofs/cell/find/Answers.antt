@@ -1,7 +1,7 @@
 -- `seek::cell::find` meets its contract. The four legs hand each other what they need. Assumes nothing.
-use borrow.Author.Rules.{rules}
-use Rattle.table.specs.Forms.{used_is}
+use Rattle.seek.specs.Legs.{row_reached}
 use Rattle.seek.proofs.cell.find.Goals as goal
 
-pub to_row_up-up-requires : goal.to_row_up-up-requires
-to_row_up-up-requires c = search (rules, used_is)
+pub to_column_left-near-requires-clause-row : goal.to_column_left-near-requires-clause-row
+to_column_left-near-requires-clause-row c =
+    row_reached _ c.requires.forms _ _ _ _ c.requires.in_plane.y_low c.climb-up.ensures c.descend-row.ensures

@@ -1,17 +1,15 @@
 -- `seek::cell::to_column_left` meets its contract. Each turn crosses one left side in the row, so left edges fall. Assumes nothing.
-use borrow.Author.Rules.{rules}
-use native.Mathlib.Omega.{arith}
+use Rattle.std.proofs.Common.{arith}
+use Rattle.seek.specs.Find.{CrossedLeft}
+use Rattle.seek.specs.Legs.{crossed_left}
 use Rattle.seek.proofs.cell.to_column_left.Goals as goal
 
-pub loop-k-init : goal.loop-k-init
-loop-k-init c = c.requires.row
+crossed : (c : goal.After-climb-k) → CrossedLeft c.args.t.now c.loop-k.k c.climb-k.result c.args.y
+crossed c =
+    crossed_left _ c.requires.forms _ _ c.loop-k.invariant _ (omega arith) (rw c.follow.ensures at c.climb-k.ensures)
 
-pub cross_left-k-requires : goal.cross_left-k-requires
-cross_left-k-requires c =
-    record { forms = c.requires.forms; size_right = c.requires.size_right; row = c.loop-k.invariant; bound = omega arith }
+pub loop-k-smaller : goal.loop-k-smaller
+loop-k-smaller c = (crossed c).beyond
 
 pub loop-k-preserved : goal.loop-k-preserved
-loop-k-preserved c = c.cross_left-k.ensures.row
-
-pub returns : goal.returns
-returns c = record { row = c.loop-k.invariant; left = search rules }
+loop-k-preserved c = (crossed c).row

@@ -1,26 +1,16 @@
--- `sound::records::blank` meets its contract. The loop's invariant: the words passed are zero. Assumes nothing.
-use mathlib.Core.Path.{sym, ◌∙◌}
-use native.Mathlib.Omega.{arith}
-use borrow.Author.Count.{below_none, below_more}
+-- `sound::records::blank` meets its contract: what the closure says of each word. Assumes nothing.
+use Rattle.std.proofs.Common.{◌≡◌, ◌≢◌, refl, rules, tests, Bool, true, false, ℕ, ◌<◌, List, ℤ, T, MatchBool, ◌↔◌}
+use Rattle.geometry.specs.Picture.{ZERO}
+use Rattle.table.specs.Words.{WIDTH, num}
+use Rattle.table.specs.Sound.{Zeros}
+use Rattle.sound.proofs.Ranges.{all_from_Range}
 use Rattle.sound.proofs.records.blank.Goals as goal
 
-pub loop-k-init : goal.loop-k-init
-loop-k-init c = (omega arith, below_none _)
-
-pub word-requires : goal.word-requires
-word-requires c = omega arith
-
-pub returns-then-word-ne-ZERO : goal.returns-then-word-ne-ZERO
-returns-then-word-ne-ZERO c = (λ b. absurd b, λ z. c.if-word-ne-ZERO.true (c.word.ensures.is ∙ z _ (omega arith)))
-
-pub overflow_add-k : goal.overflow_add-k
-overflow_add-k c = omega arith
-
-pub loop-k-smaller : goal.loop-k-smaller
-loop-k-smaller c = omega arith
-
-pub loop-k-preserved : goal.loop-k-preserved
-loop-k-preserved c = (omega arith, below_more _ _ c.loop-k.invariant.1 (sym c.word.ensures.is ∙ c.if-word-ne-ZERO.false))
+zeros : (t : List ℤ) (i : ℕ) (r : Bool) → MatchBool r (Zeros t i) ((k : ℕ) × (k < WIDTH) × (num t i k ≢ ZERO)) → T r ↔ Zeros t i
+zeros t i true z = (λ _. z, λ _. tt)
+zeros t i false (k, l, n) = (λ b. absurd b, λ z. n (z k l))
 
 pub returns : goal.returns
-returns c = (λ _ j l. c.loop-k.invariant.1 j (omega arith), λ _. tt)
+returns c =
+    let t = c.args.t.now in
+    zeros t c.args.i c.all.result (all_from_Range WIDTH (λ k. num t c.args.i k ≡ ZERO) (λ k. num t c.args.i k ≢ ZERO) _ _ _ refl c.all.ensures.ran (λ x q k. search (rules, tests)) (λ x q k. search (rules, tests)))

@@ -1,22 +1,16 @@
--- `sound::sides::all_beside` meets its contract. The loop's invariant: each tile passed lies right. Assumes nothing.
-use mathlib.Core.Path.{subst}
-use native.Mathlib.Omega.{arith}
-use borrow.Author.Count.{below_none, below_more}
-use Rattle.sound.specs.Sides.{Beside, all_beside, not_beside}
-use borrow.Author.Rules.{rules}
+-- `sound::sides::all_beside` meets its contract: what the closure says of each tile. Assumes nothing.
+use Rattle.std.proofs.Common.{◌≡◌, Bool, true, false, ℕ, ◌<◌, List, ℤ, MatchBool, refl, arith, rules, tests}
+use Rattle.table.specs.Words.{records_of}
+use Rattle.sound.specs.Sides.{Beside, AllBeside, all_beside, not_beside}
+use Rattle.sound.proofs.Ranges.{all_from_Range}
 use Rattle.sound.proofs.sides.all_beside.Goals as goal
 
-pub loop-i-init : goal.loop-i-init
-loop-i-init c = (search rules, below_none _)
-
-pub beside-requires : goal.beside-requires
-beside-requires c = (c.requires, omega arith)
-
-pub loop-i-preserved : goal.loop-i-preserved
-loop-i-preserved c = (omega arith, below_more _ _ c.loop-i.invariant.1 (subst (Beside _ _) c.if-beside.true c.beside.ensures))
-
-pub returns-else-beside : goal.returns-else-beside
-returns-else-beside c = not_beside _ _ (subst (Beside _ _) c.if-beside.false c.beside.ensures)
+tells : (t : List ℤ) (n : ℕ) (r : Bool) → n ≡ records_of t → MatchBool r ((k : ℕ) → k < n → Beside t k true) ((k : ℕ) × (k < n) × Beside t k false) → AllBeside t r
+tells t n true e a = all_beside t (λ k h. a k (omega arith))
+tells t n false e (k, h, b) = not_beside t k b
 
 pub returns : goal.returns
-returns c = all_beside _ (λ k l. c.loop-i.invariant.1 k (omega arith))
+returns c =
+    let t = c.args.t.now in
+    tells t c.records.result c.all.result c.records.ensures
+    (all_from_Range c.records.result (λ k. Beside t k true) (λ k. Beside t k false) _ _ _ refl c.all.ensures.ran (λ x q k. search (rules, tests)) (λ x q k. search (rules, tests)))

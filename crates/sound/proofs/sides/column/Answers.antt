@@ -1,22 +1,8 @@
 -- `sound::sides::column` meets its contract. The loop's invariant is `Walked`; the walk ends because bottom falls. Assumes nothing.
 use native.Mathlib.Omega.{arith}
 use Rattle.geometry.specs.Cases.{yes, no}
-use Rattle.sound.specs.Columns.{walk_start, walk_on, falls, walk_ends, walk_stops}
+use Rattle.sound.specs.Columns.{walk_on, falls, walk_ends, walk_stops}
 use Rattle.sound.proofs.sides.column.Goals as goal
-
-pub loop-at-init : goal.loop-at-init
-loop-at-init c = walk_start _ _ _ _ _ c.requires.1.0
-
-pub fits-requires : goal.fits-requires
-fits-requires c = c.loop-at.invariant.used.below
-
-pub under_word-requires : goal.under_word-requires
-under_word-requires c =
-    let b = c.loop-at.invariant.used.below in
-    (omega arith, c.requires.1.1.1)
-
-pub follow-at-requires : goal.follow-at-requires
-follow-at-requires c = let b = c.loop-at.invariant.used.below in omega arith
 
 pub loop-at-smaller : goal.loop-at-smaller
 loop-at-smaller c =

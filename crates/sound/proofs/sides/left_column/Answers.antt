@@ -1,14 +1,15 @@
 -- `sound::sides::left_column` meets its contract: the walk from the corner goes along the whole column. Assumes nothing.
-use native.Mathlib.Omega.{arith}
+use Rattle.std.proofs.Common.{arith}
 use Rattle.sound.specs.Sides.{corner_none, corner_used, corner_column}
 use Rattle.sound.proofs.sides.left_column.Goals as goal
 
-pub returns-then-records-k : goal.returns-then-records-k
-returns-then-records-k c = corner_none _ _ c.corner-k.ensures (omega arith)
-
 pub column-requires : goal.column-requires
 column-requires c =
-    (c.requires, (corner_used _ _ c.requires c.corner-k.ensures (omega arith), (omega arith, omega arith)))
+    let (b, k) = c.in-Some.ensures in
+    (c.requires, (corner_used _ _ c.requires k b, (omega arith, omega arith)))
 
-pub returns : goal.returns
-returns c = corner_column _ _ _ c.corner-k.ensures (omega arith) c.column.ensures
+pub returns-in-Some : goal.returns-in-Some
+returns-in-Some c = let (b, k) = c.in-Some.ensures in corner_column _ _ _ k b c.column.ensures
+
+pub returns-in-None : goal.returns-in-None
+returns-in-None c = corner_none _ _ c.in-None.ensures (omega arith)

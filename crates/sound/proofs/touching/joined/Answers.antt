@@ -1,23 +1,18 @@
--- `sound::touching::joined` meets its contract. The loop's invariant: each record passed has its looks. Assumes nothing.
-use native.Mathlib.Omega.{arith}
-use borrow.Author.Count.{below_none, below_more}
-use Rattle.geometry.specs.Cases.{yes, no}
-use Rattle.sound.specs.Touching.{holds, fails, looks_all, not_looks}
-use borrow.Author.Rules.{rules}
+-- `sound::touching::joined` meets its contract: what the closure says of each record. Assumes nothing.
+use Rattle.std.proofs.Common.{◌≡◌, Bool, true, false, ℕ, ◌<◌, List, ℤ, MatchBool, T, ◌↔◌, refl, arith, rules, tests}
+use Rattle.geometry.specs.Picture.{Joined}
+use Rattle.table.specs.Words.{records_of}
+use Rattle.table.specs.Forms.{Forms, solid_set}
+use Rattle.sound.specs.Touching.{LooksAt, holds, fails, looks_all, not_looks}
+use Rattle.sound.proofs.Ranges.{all_from_Range}
 use Rattle.sound.proofs.touching.joined.Goals as goal
 
-pub loop-i-init : goal.loop-i-init
-loop-i-init c = (search rules, below_none _)
-
-pub looks-requires : goal.looks-requires
-looks-requires c =
-    record { forms = c.requires; i_bound = omega arith }
-
-pub loop-i-preserved : goal.loop-i-preserved
-loop-i-preserved c = (omega arith, below_more _ _ c.loop-i.invariant.1 (yes c.looks.ensures c.if-looks.true))
-
-pub returns-else-looks : goal.returns-else-looks
-returns-else-looks c = fails (not_looks _ _ c.requires (omega arith) (no c.looks.ensures c.if-looks.false))
+tells : (t : List ℤ) (n : ℕ) (r : Bool) → Forms t → n ≡ records_of t → MatchBool r ((k : ℕ) → k < n → LooksAt t k) ((k : ℕ) × (k < n) × (LooksAt t k → ⊥)) → T r ↔ Joined (solid_set t)
+tells t n true f e a = holds (looks_all t f (λ k h. a k (omega arith)))
+tells t n false f e (k, h, b) = fails (not_looks t k f (omega arith) b)
 
 pub returns : goal.returns
-returns c = holds (looks_all _ c.requires (λ k l. c.loop-i.invariant.1 k (omega arith)))
+returns c =
+    let t = c.args.t.now in
+    tells t c.records.result c.all.result c.requires c.records.ensures
+    (all_from_Range c.records.result (LooksAt t) (λ k. LooksAt t k → ⊥) _ _ _ refl c.all.ensures.ran (λ x q k. search (rules, tests)) (λ x q k. search (rules, tests)))

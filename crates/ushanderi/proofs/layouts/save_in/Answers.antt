@@ -8,13 +8,13 @@ use Rattle.ushanderi.proofs.layouts.save_in.Goals as goal
 pub overflow_mul-need : goal.overflow_mul-need
 overflow_mul-need c = record { fits = omega (arith, c.requires.solids_value, save_low _ c.requires.fit) }
 
-pub answered-requires : goal.answered-requires
-answered-requires c =
+pub refused_with-requires : goal.refused_with-requires
+refused_with-requires c =
     omega (arith, c.requires.solids_value, save_low _ c.requires.fit)
 
 pub returns-then-out-need : goal.returns-then-out-need
 returns-then-out-need c =
-    rw c.answered.ensures (save_short _ _ _ c.requires.fit (omega (arith, c.requires.solids_value)) c.if-out-need.true)
+    rw c.refused_with.ensures (save_short _ _ _ c.requires.fit (omega (arith, c.requires.solids_value)) c.if-out-need.true)
 
 pub save-written-requires : goal.save-written-requires
 save-written-requires c =

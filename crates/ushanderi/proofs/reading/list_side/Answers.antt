@@ -8,13 +8,13 @@ pub count_side-n-requires : goal.count_side-n-requires
 count_side-n-requires c =
     record { forms = fit_forms _ c.requires.fit; size_right = c.requires.fit.size; used_in = c.requires.used_in }
 
-pub answered-requires : goal.answered-requires
-answered-requires c =
+pub refused_with-requires : goal.refused_with-requires
+refused_with-requires c =
     counts_low _ (fit_forms _ c.requires.fit) _ _ _ c.requires.used_in c.count_side-n.ensures
 
 pub returns-then-out-n : goal.returns-then-out-n
 returns-then-out-n c =
-    rw c.answered.ensures (side_short _ _ _ _ _ c.count_side-n.ensures c.if-out-n.true)
+    rw c.refused_with.ensures (side_short _ _ _ _ _ c.count_side-n.ensures c.if-out-n.true)
 
 pub list_side-requires : goal.list_side-requires
 list_side-requires c =

@@ -1,0 +1,2 @@
+-- What the proofs of the check's functions share.
+pub mod Ranges

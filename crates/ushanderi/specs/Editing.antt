@@ -64,9 +64,6 @@ refusal t A label a (CreateRefuses.full f r l h c e) = record { number = FULL; i
 pub create_same : {t t' : List ℤ} {A B : Area} {l m : ℕ} {a : MetAnswer} → A ≡ B → l ≡ m → CreateSays t A l t' a → CreateSays t B m t' a
 create_same {t} {t'} {A} {B} {l} {m} {a} p q s = subst₂ (λ A l. CreateSays t A l t' a) p q s
 
-pub ends_same : (t t' : List ℤ) {A B : Area} {l m : ℕ} (e : Result ℕ MetAnswer) → A ≡ B → l ≡ m → CreateEnds t A l t' e → CreateEnds t B m t' e
-ends_same t t' {A} {B} {l} {m} e p q s = subst₂ (λ A l. CreateEnds t A l t' e) p q s
-
 -- the record of a new solid is a word's
 pub done_low : (t : List ℤ) (A : Area) (label : ℕ) (t' : List ℤ) (k : ℕ) → CreateDone t A label t' k → k < 2 ^ 31
 done_low t A label t' k d = low_record t k d.allows.fit.size (omega (arith, d.adds.new.below, d.edited.size))

@@ -1,7 +1,7 @@
 -- The checks 1 and 2, which every call but fresh, view and load runs first, and 4, which then comes on a rectangle. Assumes nothing.
 use Rattle.std.specs.Prelude.{◌≡◌, refl, List, ℕ, ◌<◌, ◌^◌, ℤ, Float, Option, Some, None, Result, Ok, Err, MatchResult}
 use Rattle.std.specs.Option.{ok_or}
-use Rattle.std.proofs.Common.{sym, ap, ◌∙◌, subst, arith, SFits, to_z, of_z}
+use Rattle.std.proofs.Common.{ap, ◌∙◌, subst, arith, SFits, to_z, of_z}
 use Rattle.std.specs.Int.{w32}
 use Rattle.geometry.specs.Count.{count_le}
 use Rattle.table.specs.Words.{records_of}
@@ -11,13 +11,11 @@ use Rattle.seek.specs.Enumerate.{area_of}
 use Rattle.seek.specs.Passing.{Passes}
 use Rattle.seek.specs.declared.rect.Rect.{Rect}
 use Rattle.ushanderi.specs.Answers.{RECT, number_of, accepted, refused, answer_of, without_cell, unreported, ruler_area}
-use Rattle.ushanderi.specs.Promises.{Unfit, Fit, CheckSays, SearchSays, EnumerateSays, DensitySays}
+use Rattle.ushanderi.specs.Promises.{Unfit, Fit, CheckSays, SearchSays, DensitySays}
 use Rattle.ushanderi.specs.Reading.{Low}
 use Rattle.ushanderi.specs.ReadingAreas.{area_bits}
-use Rattle.ushanderi.specs.declared.answer.Answer.{Answer}
 use Rattle.ushanderi.specs.declared.answer.MetAnswer.{MetAnswer}
 use Rattle.ushanderi.specs.declared.answer.Refusal.{Refusal}
-use Rattle.ushanderi.specs.declared.answer.Refusal.TheVariants as Refusals
 use Rattle.ushanderi.specs.declared.reports.DensityAnswer.{DensityAnswer}
 
 -- how many solids the table has, or why it cannot be worked on
@@ -50,10 +48,6 @@ module _ {t : List ℤ} {A : Area} (r : Refusal) where
   search_refused a (unfit u) e = SearchSays.unfit (refused (number_of r)) u e
   search_refused a (rect f n q) e = SearchSays.rect f n (e ∙ ap (λ n. without_cell (refused n)) q)
 
-  pub enumerate_refused : (out : List ℤ) (a : Answer) → RefusesRect t A r → a ≡ refused (number_of r) → EnumerateSays t A out out a
-  enumerate_refused out a (unfit u) e = EnumerateSays.unfit (subst (Unfit t) (sym e) u) refl
-  enumerate_refused out a (rect f n q) e = EnumerateSays.rect f n (e ∙ ap refused q) refl
-
   pub density_refused : (w h : ℕ) (out : List Float) (a : DensityAnswer) → RefusesRect t A r → a ≡ unreported (refused (number_of r))
       → DensitySays t A w h out out a
   density_refused w h out a (unfit u) e = DensitySays.unfit (refused (number_of r)) u e refl
@@ -65,15 +59,7 @@ pub admits_bits : (t : List ℤ) (left bottom right top : ℤ) → SFits w32 lef
     → AdmitsRect t (ruler_area left bottom right top) e
 admits_bits t left bottom right top f g h k e a = subst (λ A. AdmitsRect t A e) (area_bits left bottom right top f g h k) a
 
--- what `Rect::new` passes or refuses, where None becomes a refusal
+-- what `Rect::new` passes, where None becomes a refusal
 pub passes_ok : {F : Type 0} (A : Area) (o : Option Rect) (x : F) (r : Rect) → Passes A o → ok_or o x ≡ Ok r → area_of r.area ≡ A
 passes_ok A None x r p q = absurd (let z : ◌≡◌ {A = ℕ} 0 1 = cc in omega arith)
 passes_ok A (Some s) x r p q = let d : s ≡ r = cc in subst (λ r. area_of r.area ≡ A) d p
-
-pub passes_err : {F : Type 0} (A : Area) (o : Option Rect) (x y : F) → Passes A o → ok_or o x ≡ Err y → (RectRight A → ⊥) × (y ≡ x)
-passes_err A None x y p q = (p, cc)
-passes_err A (Some s) x y p q = absurd (let z : ◌≡◌ {A = ℕ} 0 1 = cc in omega arith)
-
-pub passes_admits : (t : List ℤ) (A B : Area) (o : Option Rect) → Fit t → Passes A o → A ≡ B → AdmitsRect t B (ok_or o Refusals.Rect)
-passes_admits t A B None f p e = rect f (subst (λ A. RectRight A → ⊥) e p) refl
-passes_admits t A B (Some r) f p e = (f, p ∙ e)

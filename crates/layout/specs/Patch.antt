@@ -53,6 +53,22 @@ patch_then old at a b n e h =
     ∙ append_assoc (take at old) a (b ++ drop (at + length (a ++ b)) old)
     ∙ ap (λ l. take at old ++ l) (sym (append_assoc a b (drop (at + length (a ++ b)) old)))
 
+-- one entry more
+pub patch_more : (old : List ℕ) (at : ℕ) (a : List ℕ) (n x : ℕ) → n ≡ at + length a → n < length old
+    → set (patch old at a) n x ≡ patch old at (a ++ (x ∷ []))
+patch_more old at a n x e h =
+    let l : length (patch old at a) ≡ length old = patch_length old at a (omega arith) in
+    let k : length (a ++ (x ∷ [])) ≡ length a + 1 = length-append a (x ∷ []) in
+    patch_one (patch old at a) n x (omega arith) ∙ patch_then old at a (x ∷ []) n e (omega arith)
+
+pub patch_four : (old : List ℕ) (at a b c d : ℕ) → at + 4 ≤ length old
+    → set (set (set (set old at a) (at + 1) b) (at + 2) c) (at + 3) d ≡ patch old at (a ∷ b ∷ c ∷ d ∷ [])
+patch_four old at a b c d h =
+    ap (λ l. set (set (set l (at + 1) b) (at + 2) c) (at + 3) d) (patch_one old at a (omega arith))
+    ∙ ap (λ l. set (set l (at + 2) c) (at + 3) d) (patch_more old at (a ∷ []) (at + 1) b refl (omega arith))
+    ∙ ap (λ l. set l (at + 3) d) (patch_more old at (a ∷ b ∷ []) (at + 2) c refl (omega arith))
+    ∙ patch_more old at (a ∷ b ∷ c ∷ []) (at + 3) d refl (omega arith)
+
 -- what a function that writes `text` at `at` and answers the next position leaves
 pub record Puts (old new : List ℕ) (at : ℕ) (text : List ℕ) (r : ℕ) : Type 0 where
   pub is : new ≡ patch old at text

@@ -1,14 +1,19 @@
 -- Save step by step: the records written in the order of their keys. Assumes nothing.
 use Rattle.std.specs.Prelude.{◌≡◌, refl, List, [], ◌∷◌, ◌++◌, map, ℕ, suc, ◌+◌, ◌*◌, ◌≤◌, ◌<◌, ℤ, length, get_or, take, drop}
-use Rattle.std.proofs.Common.{sym, ap, ap₂, ◌∙◌, append-nil, append_assoc, arith, length-append, take-suc, length-take-le}
+use Rattle.std.proofs.Common.{sym, ap, ap₂, ◌∙◌, subst, append-nil, append_assoc, arith, length-append, take-suc, length-take-le, take_at}
 use Rattle.std.proofs.lemmas.List.{length-map}
 use Rattle.std.proofs.Math.Seq.{take-length}
+use Rattle.table.specs.Words.{records_of}
+use Rattle.table.specs.Sound.{SizeRight, solids_in}
+use Rattle.table.specs.Forms.{Forms}
 use Rattle.layout.specs.declared.bytes.Saved.{Saved}
 use Rattle.layout.specs.Bytes.{record_bytes, file_bytes, SavedFits, SAVED}
 use Rattle.layout.specs.BytesLaws.{file_length, record_length}
 use Rattle.layout.specs.Patch.{patch, patch_none, patch_then, patch_start}
 use Rattle.layout.specs.Order.{saved_of}
+use Rattle.sorting.specs.Sorting.{Sorts}
 use Rattle.sorting.specs.Keys.{record_of}
+use Rattle.layout.specs.Keys.{keys_to, CollectsKeys, record_at}
 
 -- ---- writing
 
@@ -68,3 +73,27 @@ written t ks out₀ out k w h =
     let e : k ≡ length ks = omega arith in
     w.is ∙ ap (λ n. patch out₀ 0 (file_bytes (saved_by t (take n ks)))) e ∙ ap (λ l. patch out₀ 0 (file_bytes (saved_by t l))) (take-length ks)
     ∙ patch_start out₀ (file_bytes (saved_by t ks)) ∙ ap (λ n. file_bytes (saved_by t ks) ++ drop n out₀) (saved_length t ks)
+
+-- ---- save: the n keys among those collected are back as ys, sorted
+
+module _ (t : List ℤ) (f : Forms t) (z : SizeRight t) (keys : List ℕ) (n : ℕ) (c : CollectsKeys t keys n) (fit : n ≤ length keys) (ys : List ℕ)
+    (long : length ys ≡ length (take n keys)) (s : Sorts (take n keys) ys) where
+  pub back_long : length ys ≡ n
+  back_long = long ∙ length-take-le n keys fit
+
+  pub back : take n (ys ++ drop n keys) ≡ ys
+  back = take_at ys (drop n keys) n back_long
+
+  pub back_count : n ≡ length (take n (ys ++ drop n keys))
+  back_count = sym back_long ∙ ap length (sym back)
+
+  pub are_sorted : Sorts (keys_to t (records_of t)) ys
+  are_sorted = subst (λ l. Sorts l ys) c.are s
+
+  -- the part that is handed on
+  pub back_fits : SAVED * length (take n (ys ++ drop n keys)) ≡ SAVED * solids_in t
+  back_fits = ap (λ l. SAVED * length l) back ∙ ap (λ m. SAVED * m) (back_long ∙ c.number)
+
+  pub back_below : (k : ℕ) → k < length (take n (ys ++ drop n keys)) → record_of (get_or (take n (ys ++ drop n keys)) k 0) < records_of t
+  back_below k h =
+      subst (λ l. record_of (get_or l k 0) < records_of t) (sym back) (record_at t f z ys are_sorted k (subst (λ l. k < length l) back h)).below

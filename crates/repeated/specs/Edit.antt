@@ -44,6 +44,16 @@ free_clear t l b r p f i x y s h q = f x y (omega arith) i s h
 pub right_rect : (l b r p : ℕ) → RectRight (record { left = l; bottom = b; right = r; top = p }) → Rect l b r p
 right_rect l b r p h = omega arith
 
+-- an edit that nothing forbids
+pub can_free : (t : List ℤ) (l b r p label n : ℕ) → MayEdit t l b r p label n → n ≡ 0 → CanEdit t l b r p label
+can_free t l b r p label n (unfit (Unfit.size s d)) e = absurd (omega arith)
+can_free t l b r p label n (unfit (Unfit.unsound s f d)) e = absurd (omega arith)
+can_free t l b r p label n (rect f h d) e = absurd (omega arith)
+can_free t l b r p label n (unnamed f h d) e = absurd (omega arith)
+can_free t l b r p label n (occupied f x y k h d) e = absurd (omega arith)
+can_free t l b r p label n (full f h d) e = absurd (omega arith)
+can_free t l b r p label n (free c d) e = c
+
 pub can_lay : (t : List ℤ) (from l b r p label : ℕ) → CanEdit t l b r p label → UsedIn t from → CanLay t from l b r p (solid_paint label)
 can_lay t from l b r p label c u = record {
   forms = c.fit.forms;

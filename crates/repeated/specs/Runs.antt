@@ -1,13 +1,14 @@
 -- What a run says, and a run after others: what is listed or saved twice is what is listed or saved once. Assumes nothing.
-use Rattle.std.specs.Prelude.{◌≡◌, refl, List, [], ◌∷◌, ◌++◌, map, ℕ, ◌≤◌, ℤ, length, drop}
+use Rattle.std.specs.Prelude.{◌≡◌, refl, List, [], ◌∷◌, ◌++◌, map, ℕ, ◌≤◌, ◌<◌, ℤ, length, drop}
 use Rattle.std.proofs.Common.{ap, ◌∙◌, subst, arith}
 use Rattle.std.proofs.lemmas.List.{length-map}
 use Rattle.geometry.specs.Cases.{lt_cases}
 use Rattle.geometry.specs.Picture.{Side}
+use Rattle.table.specs.Words.{records_of}
 use Rattle.table.specs.Sound.{UsedIn}
 use Rattle.table.specs.Forms.{Forms}
 use Rattle.seek.specs.Find.{finds_one}
-use Rattle.seek.specs.Meaning.{Area}
+use Rattle.seek.specs.Meaning.{Area, FreeArea, First}
 use Rattle.seek.specs.Neighbours.{side_of}
 use Rattle.seek.specs.Sides.{neighbours_one}
 use Rattle.seek.specs.Listing.{Written, Lists, Counts, counts_one}
@@ -18,7 +19,7 @@ use Rattle.layout.specs.Bytes.{file_bytes}
 use Rattle.layout.specs.BytesLaws.{file_length}
 use Rattle.layout.specs.Order.{saved_of, Saves}
 use Rattle.layout.specs.OneOrder.{one_order}
-use Rattle.repeated.specs.Says.{SideListed, AreaListed}
+use Rattle.repeated.specs.Says.{Sees, SideListed, AreaListed}
 
 -- ---- neighbours
 
@@ -124,3 +125,18 @@ saves_twice t old mid new m n a b = record {
     rest =
         let e : m ≡ n = omega (arith, a.number, b.number, one) in
         ap (drop n) a.writes ∙ drop_front (file_bytes (map (saved_of t) a.solids)) (drop m old) n whole ∙ ap (λ k. drop k old) e
+
+-- ---- area search: what its answer says, by its case
+
+pub sees_free : (t : List ℤ) (A : Area) (k : ℕ) → Sees t A k → records_of t ≤ k → FreeArea t A
+sees_free t A k (Sees.nothing f e) h = f
+sees_free t A k (Sees.solid x y f) h = absurd (omega (arith, f.solid.below))
+
+pub record Blocked (t : List ℤ) (A : Area) (k : ℕ) : Type 0 where
+  pub x : ℕ
+  pub y : ℕ
+  pub first : First t A x y k
+
+pub sees_solid : (t : List ℤ) (A : Area) (k : ℕ) → Sees t A k → k < records_of t → Blocked t A k
+sees_solid t A k (Sees.nothing f e) h = absurd (omega arith)
+sees_solid t A k (Sees.solid x y f) h = record { x = x; y = y; first = f }

@@ -95,6 +95,14 @@ unfolding ruler
 bits_of (pos n) f = omega (arith, f.sfits)
 bits_of (negsuc n) f = omega (arith, f.sfits)
 
+-- 2^32 more than a word, by its number on the ruler
+pub plus_whole : (x : ℤ) → SFits w32 x → x +ℤ pos 4294967296 ≡ pos (ruler x + 2147483648)
+unfolding ruler
+plus_whole (pos n) f = ap pos (omega arith)
+plus_whole (negsuc n) f =
+    ap (λ (b : Bool). cond b (negsuc (suc n - 4294967297)) (pos (4294967296 - suc n))) (le-ltb 4294967296 (suc n) (omega arith))
+    ∙ ap pos (omega arith)
+
 -- a word as a length: itself, and 0 where it is below 0
 unfoldable pub length_of : ℤ → ℕ
 length_of (pos n) = n

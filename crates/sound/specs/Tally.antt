@@ -1,10 +1,10 @@
 -- The sums of the first pass: the cells that the used records take, and the solids. Assumes nothing.
-use Rattle.std.specs.Prelude.{Option, Some, None, ◌≡◌, refl, ◌↔◌, Bool, true, false, not, List, ℕ, ◌+◌, ◌-◌, ◌*◌, ◌^◌, ◌≤◌, ◌<◌, T, eqb, ℤ}
+use Rattle.std.specs.Prelude.{Option, Some, None, ◌≡◌, refl, ◌≢◌, ◌↔◌, Bool, true, false, not, List, ℕ, ◌+◌, ◌-◌, ◌*◌, ◌^◌, ◌≤◌, ◌<◌, T, eqb, ℤ}
 use Rattle.std.proofs.Common.{sym, ap, ap₂, ◌∙◌, mul-le-mul, zero-mul, add-one, arith, below_none, below_more, eq-eqb, ne_eqb}
 use Rattle.std.specs.Int.{from_bool}
 use Rattle.geometry.specs.Cases.{eq_cases}
 use Rattle.geometry.specs.Counting.{only, sum_to, count}
-use Rattle.geometry.specs.Picture.{FREE}
+use Rattle.geometry.specs.Picture.{FREE, SOLID}
 use Rattle.geometry.specs.Plane.{area}
 use Rattle.table.specs.Words.{LEFT, BOTTOM, RIGHT, TOP, KIND, num, records_of}
 use Rattle.table.specs.Sound.{SizeRight, Zeros, solid_at, solids_in}
@@ -86,6 +86,15 @@ pub one_is : (t : List ℤ) (k : ℕ) (b : Bool) → b ≡ solid_at t k → OneI
 unfolding one
 one_is t k true e = record { is = ap (λ b. only b 1) e; fits = omega arith }
 one_is t k false e = record { is = ap (λ b. only b 1) e; fits = omega arith }
+
+-- the same of its kind
+pub one_solid : (t : List ℤ) (k : ℕ) → num t k KIND ≡ SOLID → one t k ≡ 1
+unfolding one
+one_solid t k e = ap (λ b. only b 1) (eq-eqb (num t k KIND) SOLID e)
+
+pub one_other : (t : List ℤ) (k : ℕ) → num t k KIND ≢ SOLID → one t k ≡ 0
+unfolding one
+one_other t k n = ap (λ b. only b 1) (ne_eqb (num t k KIND) SOLID n)
 
 pub area_none : (t : List ℤ) → area_to t 0 ≡ 0
 unfolding area_to sum_to

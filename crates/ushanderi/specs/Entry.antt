@@ -10,12 +10,13 @@ use Rattle.seek.specs.Meaning.{Area, RectRight}
 use Rattle.seek.specs.Enumerate.{area_of}
 use Rattle.seek.specs.Passing.{Passes}
 use Rattle.seek.specs.declared.rect.Rect.{Rect}
-use Rattle.ushanderi.specs.Answers.{RECT, number_of, accepted, refused, answer_of, without_cell, unreported, ruler_area}
+use Rattle.ushanderi.specs.Answers.{SIZE, UNSOUND, RECT, number_of, accepted, refused, answer_of, without_cell, unreported, ruler_area}
 use Rattle.ushanderi.specs.Promises.{Unfit, Fit, CheckSays, SearchSays, DensitySays}
 use Rattle.ushanderi.specs.Reading.{Low}
 use Rattle.ushanderi.specs.ReadingAreas.{area_bits}
 use Rattle.ushanderi.specs.declared.answer.MetAnswer.{MetAnswer}
 use Rattle.ushanderi.specs.declared.answer.Refusal.{Refusal}
+use Rattle.ushanderi.specs.declared.answer.Refusal.TheVariants as Refusals
 use Rattle.ushanderi.specs.declared.reports.DensityAnswer.{DensityAnswer}
 
 -- how many solids the table has, or why it cannot be worked on
@@ -26,8 +27,25 @@ pub admits_check : (t : List ℤ) (e : Result ℕ Refusal) → Admits t e → Ch
 admits_check t (Ok n) (f, i) = CheckSays.done f (ap accepted i)
 admits_check t (Err r) u = CheckSays.unfit u
 
+-- what each case says
+pub admits_fit : (t : List ℤ) (e : Result ℕ Refusal) (n : ℕ) → Admits t e → e ≡ Ok n → Fit t × (n ≡ solids_in t)
+admits_fit t e n a q = subst (Admits t) q a
+
+abbrev pub NotSound : Result ℕ Refusal → Type 0
+NotSound e = (n : ℕ) → e ≡ Ok n → ⊥
+
+pub admits_unfit : (t : List ℤ) (e : Result ℕ Refusal) → Admits t e → NotSound e → Unfit t (answer_of e)
+admits_unfit t (Ok n) a k = absurd (k n refl)
+admits_unfit t (Err r) u k = u
+
+pub size_unfit : (t : List ℤ) (e : Result ℕ Refusal) → Admits t e → e ≡ Err Refusals.Size → Unfit t (refused SIZE)
+size_unfit t e a q = subst (Admits t) q a
+
+pub unsound_unfit : (t : List ℤ) (e : Result ℕ Refusal) → Admits t e → e ≡ Err Refusals.Unsound → Unfit t (refused UNSOUND)
+unsound_unfit t e a q = subst (Admits t) q a
+
 -- a number of records is a word's
-few_solids : (t : List ℤ) → SizeRight t → solids_in t < 2 ^ 31
+pub few_solids : (t : List ℤ) → SizeRight t → solids_in t < 2 ^ 31
 few_solids t s = omega (arith, s.most, count_le (records_of t) (solid_at t))
 
 pub admits_low : (t : List ℤ) (e : Result ℕ Refusal) → Admits t e → Low e

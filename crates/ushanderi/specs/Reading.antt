@@ -1,6 +1,6 @@
 -- The calls that read a plane: what their answers and words say in 01's numbers, and what the checks 1, 2 and 3 give. Assumes nothing.
-use Rattle.std.specs.Prelude.{◌≡◌, List, ℕ, ◌<◌, ◌^◌, ℤ, pos, Result, Ok, Err, MatchResult}
-use Rattle.std.proofs.Common.{sym, ap, subst, subst₂, arith, SFits, to_z, of_z}
+use Rattle.std.specs.Prelude.{◌≡◌, ◌⊎◌, List, ℕ, ◌<◌, ◌^◌, ℤ, pos, Result, Ok, Err, MatchResult}
+use Rattle.std.proofs.Common.{sym, ap, subst, subst₂, inl, inr, arith, SFits, to_z, of_z}
 use Rattle.std.specs.Int.{w32}
 use Rattle.ruler.specs.Ruler.{ruler, ruler_bits}
 use Rattle.table.specs.Words.{records_of}
@@ -18,6 +18,17 @@ use Rattle.ushanderi.specs.declared.answer.Refusal.TheVariants as Refusals
 
 pub fit_forms : (t : List ℤ) → Fit t → Forms t
 fit_forms t f = sound_forms t f.size.most f.sound
+
+-- ---- a number that is 0 or 1 is not 2, and one that is 1, 2 or 3 is not 0
+
+pub not_third : {n : ℕ} → (n ≡ 0) ⊎ (n ≡ 1) → n ≡ 2 → ⊥
+not_third (inl h) e = omega arith
+not_third (inr h) e = omega arith
+
+pub not_first : {n : ℕ} → (n ≡ 1) ⊎ ((n ≡ 2) ⊎ (n ≡ 3)) → n ≡ 0 → ⊥
+not_first (inl h) e = omega arith
+not_first (inr (inl h)) e = omega arith
+not_first (inr (inr h)) e = omega arith
 
 -- ---- find
 

@@ -1,13 +1,16 @@
 -- Area search and enumeration: how the search, the count and the list give the calls' promises. Assumes nothing.
-use Rattle.std.specs.Prelude.{◌≡◌, refl, List, ◌++◌, map, ℕ, ◌≤◌, ◌<◌, ◌^◌, ℤ, pos, length, drop}
+use Rattle.std.specs.Prelude.{◌≡◌, refl, List, ◌++◌, map, ℕ, ◌≤◌, ◌<◌, ◌^◌, ℤ, pos, length, drop, Result, Ok, Err}
 use Rattle.std.proofs.Common.{ap, ◌∙◌, subst, arith, SFits, to_z, of_z}
 use Rattle.std.specs.Int.{w32}
 use Rattle.ruler.specs.Ruler.{ruler, ruler_bits}
 use Rattle.table.specs.Sound.{SizeRight}
 use Rattle.seek.specs.Meaning.{Area, RectRight, First, Directed}
+use Rattle.seek.specs.Search.{Searches}
 use Rattle.seek.specs.Writing.{writes_whole}
 use Rattle.seek.specs.Enumerate.{WritesArea, CountsArea, counts_area_short}
-use Rattle.ushanderi.specs.Answers.{SHORT, accepted, answered, ruler_area}
+use Rattle.seek.specs.declared.rows.Met.{Met}
+use Rattle.ushanderi.specs.Answers
+use Rattle.ushanderi.specs.Answers.{SHORT, accepted, answered, with_cell, without_cell, ruler_area}
 use Rattle.ushanderi.specs.Promises.{Fit, SearchSays, EnumerateSays}
 use Rattle.ushanderi.specs.declared.answer.Answer.{Answer}
 use Rattle.ushanderi.specs.declared.answer.MetAnswer.{MetAnswer}
@@ -26,6 +29,15 @@ area_bits left bottom right top f g h k =
     area_is _ _ _ _ left bottom right top (ruler_bits left f) (ruler_bits bottom g) (ruler_bits right h) (ruler_bits top k)
 
 -- ---- area search
+
+-- the number, the value and the cell of each case
+abbrev pub seen_answer : Result ℕ Met → MetAnswer
+seen_answer (Ok k) = without_cell Answers.nothing
+seen_answer (Err m) = with_cell (accepted m.tile) m.x m.y
+
+pub searches_says : (t : List ℤ) (A : Area) (s : Result ℕ Met) → Fit t → RectRight A → Searches t A s → SearchSays t A (seen_answer s)
+searches_says t A (Ok k) f r h = SearchSays.free f r h.0 refl
+searches_says t A (Err m) f r h = SearchSays.met f r m.x m.y m.tile h refl
 
 pub search_same : {t : List ℤ} {A B : Area} {a : MetAnswer} → A ≡ B → SearchSays t A a → SearchSays t B a
 search_same {t} {A} {B} {a} e s = subst (λ A. SearchSays t A a) e s

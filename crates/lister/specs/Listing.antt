@@ -1,7 +1,8 @@
 -- The lister's text, as 01 shows it, and how the lines of a list of tiles are put one after another. Assumes nothing.
-use Rattle.std.specs.Prelude.{◌≡◌, refl, ◌≢◌, List, [], ◌∷◌, ◌++◌, map, ℕ, zero, suc, ◌+◌, ◌*◌, ◌≤◌, ◌<◌, ◌^◌, ℤ, pos, negsuc, length, take, drop, get_or}
-use Rattle.std.proofs.Common.{sym, ap, ◌∙◌, subst, append-nil, append_assoc, not-suc-le-zero, le_of_suc-le-suc, arith, take_at, to_z, of_z}
-use Rattle.std.proofs.lemmas.List.{length-map, map_more, get_or-map}
+use Rattle.std.specs.Prelude.{◌≡◌, refl, ◌≢◌, List, [], ◌∷◌, ◌++◌, map, ℕ, zero, suc, ◌+◌, ◌-◌, ◌*◌, ◌≤◌, ◌<◌, ◌^◌, ℤ, pos, negsuc, length, take, drop, get_or}
+use Rattle.std.proofs.Common.{sym, ap, ◌∙◌, subst, append-nil, append_assoc, not-suc-le-zero, le_of_suc-le-suc, arith, take_at, take_all, to_z, of_z}
+use Rattle.std.proofs.lemmas.List.{length-map, map_more}
+use Rattle.std.proofs.Math.ListN.{get_or-map}
 use Rattle.std.specs.Int.{w32}
 use Rattle.ruler.specs.Ruler.{ruler, length_of, ruler_pos, count_bits}
 use Rattle.geometry.specs.Cases.{eq_cases}
@@ -13,6 +14,7 @@ use Rattle.table.specs.declared.Record.{Record}
 use Rattle.seek.specs.Meaning.{Area, Directed}
 use Rattle.seek.specs.Once.{times, times_here, times_other, directed_short}
 use Rattle.seek.specs.Order.{directed_lists}
+use Rattle.layout.specs.Patch.{patch_start, Puts}
 use Rattle.lister.specs.Sizes.{LINE}
 use Rattle.lister.specs.Text.{line_of, refused_line}
 use Rattle.lister.specs.TextLaws.{tile, Adds, adds_none, adds_then, adds_is, adds_start}
@@ -48,8 +50,15 @@ pub record Lists (t : List ℤ) (bs out : List ℕ) (r : ℕ) : Type 0 where
 
 -- ---- a list of record numbers as words
 
+abbrev pub entry : List ℤ → ℕ → ℕ
+entry list n = ruler (get_or list n (pos 0)) - ZERO
+
+pub record IsRecord (t list : List ℤ) (n : ℕ) : Type 0 where
+  pub from : ZERO ≤ ruler (get_or list n (pos 0))
+  pub below : entry list n < records_of t
+
 abbrev pub Records : List ℤ → List ℤ → Type 0
-Records t list = (n : ℕ) → n < length list → length_of (get_or list n (pos 0)) < records_of t
+Records t list = (n : ℕ) → n < length list → IsRecord t list n
 
 -- the lines of the tiles that a list names
 abbrev pub lines_at : List ℤ → List ℤ → List ℕ
@@ -67,7 +76,7 @@ lines_more t (j ∷ ks) k =
     ap (λ l. line_of (tile_of t j) ++ l) (lines_more t ks k) ∙ sym (append_assoc (line_of (tile_of t j)) (lines_of t ks) (line_of (tile_of t k)))
 
 -- record i as it is read
-tile_read : (t : List ℤ) (i : ℕ) (v : Record) → Reads t i v → tile v ≡ tile_of t i
+pub tile_read : (t : List ℤ) (i : ℕ) (v : Record) → Reads t i v → tile v ≡ tile_of t i
 tile_read t i v h =
     λ j. record { left = h.left j; bottom = h.bottom j; right = h.right j; top = h.top j; paint = record { kind = h.kind j; label = h.label j } }
 
@@ -93,7 +102,18 @@ putting_more t list s u v n i r p h e k q l =
     ∙ sym (ap (lines_of t) (map_more length_of list n (pos 0) h) ∙ lines_more t (map length_of (take n list)) (length_of (get_or list n (pos 0)))) in
     record { adds = adds_is s v _ _ next (adds_then s u v _ _ p.adds q); low = omega (arith, p.low) }
 
+-- the lines of all entries
+pub putting_all : (t list : List ℤ) (s u : Text) (n : ℕ) → Putting t list s u n → length list ≤ n → Adds s (lines_at t list) u
+putting_all t list s u n p h = adds_is s u _ _ (ap (lines_at t) (take_all n list h)) p.adds
+
 -- ---- the plane
+
+-- the text of the whole plane is put, and is so long
+pub record PutsPlane (t : List ℤ) (out out' : List ℕ) (r : ℕ) : Type 0 where
+  pub ks : List ℕ
+  pub directed : Directed t whole ks
+  pub puts : Puts out out' 0 (lines_of t ks) r
+  pub within : r ≤ length out
 
 -- the text of the whole plane is put
 pub record AddsPlane (t : List ℤ) (s u : Text) : Type 0 where
@@ -142,13 +162,15 @@ whole_is : ruler_area (negsuc 16777215) (negsuc 16777215) (pos 16777216) (pos 16
 unfolding ruler
 whole_is = refl
 
--- its value, read from its bits, is the count
+-- its value, read from its bits, is the count, and not below 0
 pub lists_plane : (t list list' : List ℤ) (a : Answer) (n : ℕ) → Fit t → records_of t ≤ length list
     → EnumerateSays t (ruler_area (negsuc 16777215) (negsuc 16777215) (pos 16777216) (pos 16777216)) list list' a
-    → n ≡ length_of (to_z w32 (of_z w32 a.value)) → ListsPlane t list list' n
+    → n ≡ length_of (to_z w32 (of_z w32 a.value)) → (ZERO ≤ ruler (to_z w32 (of_z w32 a.value))) × ListsPlane t list list' n
 lists_plane t list list' a n f h s e =
     let (m, is, p) = enumerated t list list' a f h (subst (λ A. EnumerateSays t A list list' a) whole_is s) in
-    subst (ListsPlane t list list') (sym (e ∙ count_of m a.value (ap (λ a. a.value) is) (omega (arith, p.count, p.few, f.size.most)))) p
+    let q : a.value ≡ pos m = ap (λ a. a.value) is in
+    let l : m < 2 ^ 31 = omega (arith, p.count, p.few, f.size.most) in
+    (omega (arith, word_of m a.value q l), subst (ListsPlane t list list') (sym (e ∙ count_of m a.value q l)) p)
 
 module _ (t list list' : List ℤ) (n : ℕ) (f : Fit t) (p : ListsPlane t list list' n) where
   first : take n list' ≡ map pos p.ks
@@ -164,13 +186,28 @@ module _ (t list list' : List ℤ) (n : ℕ) (f : Fit t) (p : ListsPlane t list 
   words = ap (map length_of) first ∙ records_words p.ks
 
   pub listed_records : Records t (take n list')
-  listed_records m l =
-      let e : length_of (get_or (take n list') m (pos 0)) ≡ get_or p.ks m 0 = sym (get_or-map length_of (take n list') m (pos 0) 0 l) ∙ ap (λ ks. get_or ks m 0) words in
-      let b : m < length p.ks = omega (arith, ap length words, length-map (take n list') length_of) in
-      omega (arith, directed_below t (fit_forms t f) p.ks p.directed m b)
+  listed_records = subst (Records t) (sym first) each
+    where
+      each : Records t (map pos p.ks)
+      each m l =
+          let b : m < length p.ks = omega (arith, length-map p.ks pos) in
+          let k : get_or (map pos p.ks) m (pos 0) ≡ pos (get_or p.ks m 0) = get_or-map pos p.ks m 0 in
+          let r : ruler (get_or (map pos p.ks) m (pos 0)) ≡ get_or p.ks m 0 + ZERO = ap ruler k ∙ ruler_pos (get_or p.ks m 0) in
+          record { from = omega arith; below = omega (arith, directed_below t (fit_forms t f) p.ks p.directed m b) }
+
+  pub puts_plane : (out out' : List ℕ) (r : ℕ) → Puts out out' 0 (lines_at t (take n list')) r → r ≤ length out → PutsPlane t out out' r
+  puts_plane out out' r w l =
+      record { ks = p.ks; directed = p.directed; puts = subst (λ x. Puts out out' 0 x r) (ap (lines_of t) words) w; within = l }
 
   pub adds_plane : (s u : Text) → Adds s (lines_at t (take n list')) u → AddsPlane t s u
   adds_plane s u q = record { ks = p.ks; directed = p.directed; adds = adds_is s u _ _ (ap (lines_of t) words) q }
+
+-- ---- the text at the start of the lent bytes
+
+pub text_at : (out out' text : List ℕ) (r : ℕ) → Puts out out' 0 text r → take r out' ≡ text
+text_at out out' text r p =
+    let e : length text ≡ r = omega (arith, p.next) in
+    ap (take r) (p.is ∙ patch_start out text) ∙ take_at text (drop (length text) out) r e
 
 -- ---- the ends of a load
 

@@ -51,6 +51,10 @@ decimal_short (suc k) n h =
     (λ l. let ih = decimal_short k (n / 10) (omega arith) in
     omega (arith, ap length (decimal_more n l), length-append (decimal (n / 10)) (glyph (n % 10) ∷ [])))
 
+-- a word has at most ten
+pub decimal_word : (n : ℕ) → n ≤ 2 ^ 31 → length (decimal n) ≤ 10
+decimal_word n h = decimal_short 9 n (omega arith)
+
 -- the digits that std writes
 pub decimal_is : (n : ℕ) → n < 2 ^ 64 → decimal n ≡ digits 10 false n
 unfolding decimal
@@ -116,6 +120,16 @@ pub kind_other : (k : ℕ) → (k ≡ SOLID → ⊥) → kind_text k ≡ space_t
 unfolding kind_text
 kind_other k e = ap (λ b. cond b solid_text space_text) (ne_eqb k SOLID e)
 
+-- a line by its pieces, as they are written
+pub line_pieces : (v : Tile)
+    → (((kind_text v.paint.kind ++ spaced v.paint.label) ++ (spaced v.left ++ spaced v.bottom)) ++ (spaced v.right ++ spaced v.top)) ++ newline ≡ line_of v
+unfolding line_of
+line_pieces v = simp append_assoc
+
+pub refused_pieces : (number value : ℕ) → (refused_text ++ (spaced number ++ spaced value)) ++ newline ≡ refused_line number value
+unfolding refused_line
+refused_pieces number value = simp append_assoc
+
 -- a record's rectangle and what is painted on it
 abbrev pub tile : Record → Tile
 tile v = record { left = v.left; bottom = v.bottom; right = v.right; top = v.top; paint = record { kind = v.kind; label = v.label } }
@@ -132,6 +146,70 @@ line_row v name e = ap (λ n. row n (v.paint.label ∷ v.left ∷ v.bottom ∷ v
 pub refused_row : (number value : ℕ) → row refused_text (number ∷ value ∷ []) ≡ refused_line number value
 unfolding refused_line
 refused_row number value = simp append_assoc
+
+-- ---- digits as they are written
+
+pub length_low : (n : ℕ) → n < 10 → length (decimal n) ≡ 1
+length_low n h = ap length (decimal_low n h)
+
+pub length_more : (n : ℕ) → 10 ≤ n → length (decimal n) ≡ length (decimal (n / 10)) + 1
+length_more n h = ap length (decimal_more n h) ∙ length-append (decimal (n / 10)) (glyph (n % 10) ∷ [])
+
+pub puts_low : (old new : List ℕ) (at n r : ℕ) → n < 10 → Puts old new at (glyph n ∷ []) r → Puts old new at (decimal n) r
+puts_low old new at n r h p = subst (λ ds. Puts old new at ds r) (sym (decimal_low n h)) p
+
+pub puts_more : (old mid new : List ℕ) (at next n r : ℕ) → 10 ≤ n → at + length (decimal n) ≤ length old → Puts old mid at (decimal (n / 10)) next
+    → Puts mid new next (glyph (n % 10) ∷ []) r → Puts old new at (decimal n) r
+puts_more old mid new at next n r h l p q =
+    subst (λ ds. Puts old new at ds r) (sym (decimal_more n h))
+    (puts_then old mid new at next r (decimal (n / 10)) (glyph (n % 10) ∷ []) (omega (arith, length_more n h, p.next, q.next)) p q)
+
+-- ---- a signed number as it is written
+
+pub puts_minus : (old mid new : List ℕ) (at n w r : ℕ) → w < ZERO → r ≤ length old → Puts old mid at (45 ∷ []) n → Puts mid new n (decimal (ZERO - w)) r
+    → Puts old new at (signed_text w) r
+puts_minus old mid new at n w r h l p q =
+    subst (λ ds. Puts old new at ds r) (sym (signed_low w h)) (puts_then old mid new at n r (45 ∷ []) (decimal (ZERO - w)) l p q)
+
+pub puts_plus : (old new : List ℕ) (at w r : ℕ) → ZERO ≤ w → Puts old new at (decimal (w - ZERO)) r → Puts old new at (signed_text w) r
+puts_plus old new at w r h p = subst (λ ds. Puts old new at ds r) (sym (signed_high w h)) p
+
+pub puts_spaced : (old mid new : List ℕ) (at n w r : ℕ) → r ≤ length old → Puts old mid at (32 ∷ []) n → Puts mid new n (signed_text w) r
+    → Puts old new at (spaced w) r
+unfolding spaced
+puts_spaced old mid new at n w r l p q = puts_then old mid new at n r (32 ∷ []) (signed_text w) l p q
+
+pub puts_solid : (old new : List ℕ) (at k r : ℕ) → k ≡ SOLID → Puts old new at solid_text r → Puts old new at (kind_text k) r
+puts_solid old new at k r e p = subst (λ ds. Puts old new at ds r) (sym (kind_solid k e)) p
+
+pub puts_space : (old new : List ℕ) (at k r : ℕ) → (k ≡ SOLID → ⊥) → Puts old new at space_text r → Puts old new at (kind_text k) r
+puts_space old new at k r e p = subst (λ ds. Puts old new at ds r) (sym (kind_other k e)) p
+
+-- ---- lines as they are written
+
+pub puts_line : (v : Tile) (old o₁ o₂ o₃ o₄ new : List ℕ) (at n₁ n₂ n₃ n₄ r : ℕ) → r ≤ length old → Puts old o₁ at (kind_text v.paint.kind) n₁
+    → Puts o₁ o₂ n₁ (spaced v.paint.label) n₂
+    → Puts o₂ o₃ n₂ (spaced v.left ++ spaced v.bottom) n₃
+    → Puts o₃ o₄ n₃ (spaced v.right ++ spaced v.top) n₄
+    → Puts o₄ new n₄ newline r
+    → Puts old new at (line_of v) r
+puts_line v old o₁ o₂ o₃ o₄ new at n₁ n₂ n₃ n₄ r h p₁ p₂ p₃ p₄ p₅ =
+    let l₄ : n₄ ≤ r = omega (arith, p₅.next) in
+    let l₃ : n₃ ≤ n₄ = omega (arith, p₄.next) in
+    let l₂ : n₂ ≤ n₃ = omega (arith, p₃.next) in
+    let q₂ = puts_then old o₁ o₂ at n₁ n₂ _ _ (omega (arith, l₂, l₃, l₄, h)) p₁ p₂ in
+    let q₃ = puts_then old o₂ o₃ at n₂ n₃ _ _ (omega (arith, l₃, l₄, h)) q₂ p₃ in
+    let q₄ = puts_then old o₃ o₄ at n₃ n₄ _ _ (omega (arith, l₄, h)) q₃ p₄ in
+    subst (λ ds. Puts old new at ds r) (line_pieces v) (puts_then old o₄ new at n₄ r _ _ h q₄ p₅)
+
+pub puts_refused : (number value : ℕ) (old o₁ o₂ new : List ℕ) (at n₁ n₂ r : ℕ) → r ≤ length old → Puts old o₁ at refused_text n₁
+    → Puts o₁ o₂ n₁ (spaced number ++ spaced value) n₂
+    → Puts o₂ new n₂ newline r
+    → Puts old new at (refused_line number value) r
+puts_refused number value old o₁ o₂ new at n₁ n₂ r h p₁ p₂ p₃ =
+    let l : n₂ ≤ r = omega (arith, p₃.next) in
+    let q = puts_then old o₁ o₂ at n₁ n₂ _ _ (omega (arith, l, h)) p₁ p₂ in
+    subst (λ ds. Puts old new at ds r) (refused_pieces number value) (puts_then old o₂ new at n₂ r _ _ h q p₃)
 
 -- ---- text as it is written
 

@@ -3,4 +3,4 @@ use Rattle.lister.specs.Listing.{lists_plane}
 use Rattle.lister.proofs.listing.list_plane.Goals as goal
 
 pub returns : goal.returns
-returns c = lists_plane _ _ _ _ _ c.requires.fit c.requires.t_in_bounds c.enumerate-a.ensures c.length.ensures
+returns c = (lists_plane _ _ _ _ _ c.requires.fit c.requires.t_in_bounds c.enumerate-a.ensures c.length.ensures).1

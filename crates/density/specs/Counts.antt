@@ -10,7 +10,7 @@ use Rattle.std.specs.Float.Ieee.Fits.{down_pos}
 use Rattle.std.specs.Float.Ieee.Exact.{HasValue}
 use Rattle.std.specs.Float.Ieee.Back.{unsigned_back}
 use Rattle.std.specs.Float.Ieee.Scale.{round_same}
-use Rattle.geometry.specs.Cases.{eq_cases}
+use Rattle.geometry.specs.Cases.{lt_cases, eq_cases}
 use Rattle.geometry.specs.Counting.{only}
 use Rattle.seek.specs.Meaning.{Area}
 use Rattle.density.specs.Meaning.{windows_of, count_of}
@@ -67,6 +67,22 @@ pub read_any : (l : List Float) (n : ℕ) (d e : Float) → n < length l → get
 read_any [] n d e h = absurd (not-suc-le-zero h)
 read_any (x ∷ xs) zero d e h = refl
 read_any (x ∷ xs) (suc n) d e h = read_any xs n d e (le_of_suc-le-suc h)
+
+-- no entry is a count yet, and one more
+pub counts_none : (old : List Float) (f : ℕ → ℕ) → Counts old old 0 f
+counts_none old f = record { long = refl; counts = λ m l. absurd (omega arith); rest = λ m l. refl }
+
+pub counts_next : (old new : List Float) (n : ℕ) (f : ℕ → ℕ) (s : Float) → Counts old new n f → n < length new → s ≡ float (f n)
+    → Counts old (set new n s) (n + 1) f
+counts_next old new n f s r l e = record {
+  long = length-set new n s ∙ r.long;
+  counts = λ m k.
+      lt_cases m n (λ b. get_or-set_other new n m s (float 0) (λ q. omega arith) ∙ r.counts m b)
+      (λ b.
+      let q : m ≡ n = omega arith in
+      subst (λ m. get_or (set new n s) m (float 0) ≡ float (f m)) (sym q) (get_or-set_same new n s (float 0) l ∙ e));
+  rest = λ m k. get_or-set_other new n m s (float 0) (λ q. omega arith) ∙ r.rest m (omega arith);
+}
 
 -- a list whose first n entries are written anew, and the rest kept
 module _ (front old : List Float) (n : ℕ) (e : length front ≡ n) (l : n ≤ length old) where

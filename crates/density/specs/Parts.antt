@@ -26,7 +26,14 @@ pub record PartFits (A P : Area) : Type 0 where
 abbrev pub AddsPart : List Float → List Float → Area → ℕ → ℕ → Area → Type 0
 AddsPart old new A w h P = let p = cells_in A w h P in Grow (windows_of A w h) old new p p
 
--- how far two edges lie under a top: omega takes only a few cuts together
+-- cuts by two edges, one at a time: omega takes only a few of them together
+above : (b t u from : ℕ) → from ≡ max b (min t u) → b < from → from ≡ min t u
+above b t u from e l = omega arith
+
+under : (b t e to : ℕ) → to ≡ max e b → e ≤ t → to ≡ max b (min t e)
+under b t e to q l = omega arith
+
+-- how far two edges lie under a top
 nearer : (top b e : ℕ) → b ≤ top → e ≤ top → min (top - b) e + max b (top - e) ≡ top
 nearer top b e h k = omega arith
 
@@ -139,6 +146,21 @@ module _ (A : Area) (w h : ℕ) (P : Area) where
       -- the window ends over the rectangle's bottom
       ends : r * h + h ≤ A.top
       ends = omega (arith, step_in r (rows_of A h) h row_in, corner.down, a)
+
+      -- the plane's lowest row is a high number: no edge of a window falls below 0
+      pub end_room : r * h + h + h ≤ A.top
+      end_room = omega (arith, step_in r (rows_of A h) h row_in, corner.down, a)
+
+      -- the window lies no higher than the one that has P's highest row, and ends under P's top
+      later : row₀ * h ≤ r * h
+      later = mul-le-mul_right {m = row₀} {n = r} h g.low
+
+      end_under : A.top - (r * h + h) < P.top
+      end_under = omega (arith, later, corner.top_near, o.inside)
+
+      -- P's rows in the window are those under `from` and from `to` on: there are some
+      pub part_less : (from end to : ℕ) → from ≡ max P.bottom (min P.top (A.top - r * h)) → end + (r * h + h) ≡ A.top → to ≡ max end P.bottom → to < from
+      part_less from end to at next t = omega (arith, at, next, t, g.next, more, end_under, o.inside, o.high, s.high)
 
       rows_are : rows ≡ Y r
       rows_are =
@@ -266,7 +288,18 @@ module _ (A : Area) (w h : ℕ) (P : Area) where
         let y : Y (m / C) ≡ 0 = past P.bottom P.top (A.top - m / C * h) _ (omega (arith, g.next, mul-le-mul_right {m = g.row} {n = m / C} h l)) in
         only_ge (m / C) g.row (p m) l ∙ sym (cells_none m y)))
 
--- ---- the loop of the code
+-- ---- the loop of the code: where its numbers are those of some area
+
+pub record Started (A : Area) (w h : ℕ) (P : Area) (area_top columns column row edge len : ℕ) : Type 0 where
+  pub rect : RectRight A
+  pub steps : Steps A w h
+  pub fits : PartFits A P
+  pub top_is : area_top ≡ A.top
+  pub columns_are : columns ≡ columns_of A w
+  pub column_is : column ≡ (P.left - A.left) / w
+  pub row_is : row ≡ (A.top - P.top) / h
+  pub edge_is : edge ≡ A.left + (P.left - A.left) / w * w
+  pub room : windows_of A w h ≤ len
 
 pub record Parting (A : Area) (w h : ℕ) (P : Area) (old new : List Float) (n depth : ℕ) : Type 0 where
   pub goes : PartGoes A w h P n depth

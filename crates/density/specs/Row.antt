@@ -114,18 +114,23 @@ module _ (n edge w left right rows : ℕ) where
   further i h = let e : i + 1 - n ≡ suc (i - n) = omega arith in ap (λ k. k * w) e ∙ suc-mul (i - n) w
 
   module _ (len : ℕ) (o : RowFits len n edge w left right rows) where
-    row_starts : RowGoes n edge
+    pub row_starts : RowGoes n edge
     row_starts =
         let e : (n - n) * w ≡ 0 = ap (λ k. k * w) (let d : n - n ≡ 0 = omega arith in d) ∙ zero-mul w in
         record { past = omega arith; at = omega arith }
 
-    row_on : (i start : ℕ) → RowGoes i start → RowGoes (i + 1) (start + w)
+    pub row_on : (i start : ℕ) → RowGoes i start → RowGoes (i + 1) (start + w)
     row_on i start r =
         let d = further i r.past in
         record { past = omega (arith, r.past); at = omega (arith, r.at) }
 
+    -- the window's columns are those from `from` on and before `to`: there are some
+    pub row_less : (i start from end to : ℕ) → RowGoes i start → from ≡ min right (max left start) → end ≡ start + w → from < right → to ≡ min end right
+        → from < to
+    row_less i start from end to r a b h e = omega (arith, r, o)
+
     -- what is added is the window's part
-    row_gives : (i start c : ℕ) → RowGoes i start → c ≡ (min right (start + w) - max left start) * rows → c ≡ part i
+    pub row_gives : (i start c : ℕ) → RowGoes i start → c ≡ (min right (start + w) - max left start) * rows → c ≡ part i
     row_gives i start c r d = d ∙ ap (λ k. (min right (k + w) - max left k) * rows) r.at ∙ sym (part_from i r.past)
 
     -- the window is one of those there are
@@ -133,6 +138,10 @@ module _ (n edge w left right rows : ℕ) where
     row_inside N i start r h k =
         lt_cases i N (λ l. l)
         (λ l. absurd (omega (arith, r, o, mul-le-mul_right {m = N - n} {n = i - n} w (omega arith))))
+
+    -- the window's right end is no large number
+    pub row_end_small : (i start : ℕ) → RowGoes i start → start < right → start + w < 2 ^ 33
+    row_end_small i start r h = omega (arith, o)
 
     pub adding_starts : (old : List Float) → Adding old old n edge
     adding_starts old = (

@@ -19,6 +19,10 @@ pub record Ready (t : List ℤ) (A : Area) (w h many : ℕ) (out : List Float) :
   pub room : windows_of A w h ≤ length out
   pub counted : Counted t A w h out
 
+-- n windows are done, of any area that the loop can have started from
+abbrev pub Tallying : List ℤ → ℕ → ℕ → ℕ → List Float → List Float → ℕ → ℕ → ℕ → ℕ → Type 0
+Tallying t w h many old new n low high sum = (A : Area) → Ready t A w h many old → Reporting t A w h old new n low high sum
+
 -- the next window: n are done
 module _ (t : List ℤ) (A : Area) (w h many : ℕ) (out new : List Float) (n low high sum : ℕ)
     (r : Ready t A w h many out) (d : Reporting t A w h (take many out) new n low high sum) (l : n < length (take many out)) where

@@ -105,6 +105,10 @@ module _ (t : List ℤ) (f : Forms t) (z : SizeRight t) (s : Side) (i : ℕ) (u 
     unfolding Steps
     counting_on w' h = record { list = c.list; are = c.are; place = h s i c.list n u c.are c.place }
 
+    -- the list has room for the neighbour
+    pub listing_room : (old new : List ℤ) → length c.list ≤ length old → Written c.list n old new → n < length new
+    listing_room old new room written = omega (arith, (c.place.here k m).below, written.same_length)
+
     pub listing_on : (w' : Walk) (old new : List ℤ) (x : ℤ) → Steps t w w' → length c.list ≤ length old → Written c.list n old new → x ≡ pos k
         → Listing t s i (n + 1) w' old (set new n x)
     unfolding counting_on

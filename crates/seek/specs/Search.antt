@@ -1,5 +1,5 @@
 -- What area search answers, row by row from the top, and that its answer is determined. Assumes nothing.
-use Rattle.std.specs.Prelude.{◌≡◌, List, ◌≢◌, ℕ, ◌-◌, ◌≤◌, ◌<◌, ℤ, MatchResult, Result}
+use Rattle.std.specs.Prelude.{◌≡◌, List, ◌≢◌, ℕ, ◌-◌, ◌≤◌, ◌<◌, ℤ, MatchResult, Result, Ok, Err}
 use Rattle.std.proofs.Common.{sym, subst, arith}
 use Rattle.geometry.specs.Cases.{lt_cases}
 use Rattle.geometry.specs.Picture.{SOLID, Has}
@@ -50,6 +50,16 @@ one_tile t f i j x y u v h k = finds_one t f x y i j (record { used = u; has = h
 pub free_under : (t : List ℤ) → Forms t → (k x y : ℕ) → UsedIn t k → num t k KIND ≢ SOLID → Has (tile_of t k) x y → FreeCell t x y
 free_under t f k x y u n h i s g = n (subst (λ j. num t j KIND ≡ SOLID) (one_tile t f i k x y (solid_used t i s) u g h) s.kind)
 
+-- a solid at the row's first cell
+pub solid_first : (t : List ℤ) (left right y k : ℕ) → left < right → Finds t left y k → num t k KIND ≡ SOLID → FirstInRow t left right y k left
+solid_first t left right y k h f e = record {
+  solid = record { below = f.used.below; kind = e };
+  has = f.has;
+  from = omega arith;
+  to = h;
+  none_before = λ x' a b. absurd (omega arith);
+}
+
 -- beside a space tile stands a solid
 pub solid_beside : (t : List ℤ) → Forms t → (left right y k n x : ℕ) → Finds t left y k → num t k KIND ≢ SOLID
     → x ≡ num t k RIGHT → x < right → Finds t x y n → FirstInRow t left right y n x
@@ -65,12 +75,27 @@ solid_beside t f left right y k n x u e q h v =
       none_before = λ x' a b. free_under t f k x' y u.used e (omega (arith, u.has));
     }
 
+-- a space tile at the row's first cell that ends at its last or after it
+pub spans : (t : List ℤ) (left right y k : ℕ) → Finds t left y k → num t k KIND ≢ SOLID → right ≤ num t k RIGHT → Spans t left right y k
+spans t left right y k f e h = record { used = f.used; no_solid = e; has = f.has; far = h }
+
+-- what the row's answer says, by its case
+pub row_clear : (t : List ℤ) (left right y : ℕ) (r : Result ℕ Met) (k : ℕ) → InRow t left right y r → r ≡ Ok k → Spans t left right y k
+row_clear t left right y r k h e = subst (InRow t left right y) e h
+
+pub row_stopped : (t : List ℤ) (left right y : ℕ) (r : Result ℕ Met) (m : Met) → InRow t left right y r → r ≡ Err m → FirstInRow t left right y m.tile m.x
+row_stopped t left right y r m h e = let o : InRow t left right y (Err m) = subst (InRow t left right y) e h in o.0
+
 -- ---- row after row: from row y up the area is free, and the search stands at a used tile
 
 pub record FreeFrom (t : List ℤ) (A : Area) (y k : ℕ) : Type 0 where
   pub used : UsedIn t k
   pub to : y ≤ A.top
   pub free : (x' y' : ℕ) → InArea A x' y' → y ≤ y' → FreeCell t x' y'
+
+-- over the top row there is no row
+pub free_start : (t : List ℤ) (A : Area) (k : ℕ) → UsedIn t k → FreeFrom t A A.top k
+free_start t A k u = record { used = u; to = omega arith; free = λ x' y' a h. absurd (omega (arith, a.top)) }
 
 pub free_on : (t : List ℤ) → Forms t → (A : Area) (y k n : ℕ) → FreeFrom t A y k → A.bottom < y → Spans t A.left A.right (y - 1) n
     → FreeFrom t A (num t n BOTTOM) n
@@ -122,3 +147,10 @@ first_one t f A x y i x' y' i' p q =
 
 pub free_no_first : (t : List ℤ) (A : Area) (x y i : ℕ) → FreeArea t A → First t A x y i → ⊥
 free_no_first t A x y i h f = h x y f.inside i f.solid f.has
+
+-- what area search saw
+pub searches_free : (t : List ℤ) (A : Area) (s : Result ℕ Met) (k : ℕ) → Searches t A s → s ≡ Ok k → FreeArea t A × UsedIn t k
+searches_free t A s k h e = subst (Searches t A) e h
+
+pub searches_met : (t : List ℤ) (A : Area) (s : Result ℕ Met) (m : Met) → Searches t A s → s ≡ Err m → First t A m.x m.y m.tile
+searches_met t A s m h e = subst (Searches t A) e h

@@ -1,8 +1,9 @@
 -- Where a search starts: at the record that a hint names, or at the first used record. Assumes nothing.
-use Rattle.std.specs.Prelude.{◌≡◌, List, ℕ, ◌-◌, ◌≤◌, ◌<◌, ℤ}
-use Rattle.std.proofs.Common.{arith}
-use Rattle.geometry.specs.Picture.{ZERO, LOW}
-use Rattle.table.specs.Words.{records_of}
+use Rattle.std.specs.Prelude.{◌≡◌, List, ℕ, ◌+◌, ◌-◌, ◌≤◌, ◌<◌, ℤ}
+use Rattle.std.proofs.Common.{subst, arith}
+use Rattle.geometry.specs.Cases.{eq_cases}
+use Rattle.geometry.specs.Picture.{ZERO, LOW, FREE}
+use Rattle.table.specs.Words.{records_of, num, KIND}
 use Rattle.table.specs.Sound.{UsedIn}
 use Rattle.table.specs.Forms.{Forms, is_used}
 
@@ -30,3 +31,11 @@ some_used t f = let (k, h) = f.good.covered LOW LOW (omega arith) in (k, is_used
 
 pub not_past : (t : List ℤ) (i : ℕ) → Forms t → NonePassed t i → i < records_of t
 not_past t i f h = let (k, u) = some_used t f in omega (arith, h k u, u.below)
+
+-- a free record is passed
+pub pass_free : (t : List ℤ) (i : ℕ) → NonePassed t i → num t i KIND ≡ FREE → NonePassed t (i + 1)
+pass_free t i h e k u = eq_cases i k (λ c. absurd (u.used (subst (λ k. num t k KIND ≡ FREE) c e))) (λ n. omega (arith, h k u))
+
+-- the search starts where the hint names a used record
+pub starts_hinted : (t : List ℤ) (hint r : ℕ) → ZERO ≤ hint → r ≡ hint - ZERO → UsedIn t r → Starts t hint r
+starts_hinted t hint r h e u = record { used = u; hinted = λ _. e; first = λ n. absurd (n (record { from = h; used = subst (UsedIn t) e u })) }

@@ -107,6 +107,10 @@ words_below right = omega arith
 words_below bottom = omega arith
 words_below left = omega arith
 
+-- the words of a side, however they are given
+pub below_of : (s : Side) (v : SideWords) → v ≡ words_of s → Below v
+below_of s v e = subst Below (sym e) (words_below s)
+
 -- ---- the walk follows the list
 
 module _ (t : List ℤ) (f : Forms t) (z : SizeRight t) where

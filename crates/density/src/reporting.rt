@@ -26,7 +26,7 @@ pub fn report_all(t: &[i32], out: &mut [f64], from: usize, windows: Windows) -> 
 {
     clear(out, windows.count() as usize);
     let mut list = [0i32; ROOM];
-    let n = gather(t, &mut list, from, windows.rect);
+    let n = gather(t, &mut list, from, windows.rect.area);
     spread(t, &list[..n], out, windows);
     tally(t, out, windows)
 }

@@ -15,12 +15,12 @@ fn area_from(t: &[i32], hint: u64, rect: Rect, list: &mut [i32]) -> usize
 {
     let from = seek::start(t, hint);
     if list.len() < table::records(t) {
-        let n = seek::count_area(t, from, rect);
+        let n = seek::count_area(t, from, rect.area);
         if list.len() < n {
             return n;
         }
     }
-    seek::list_area(t, list, from, rect)
+    seek::list_area(t, list, from, rect.area)
 }
 
 fn area_often(t: &[i32], rect: Rect, list: &mut [i32], times: u32) -> usize

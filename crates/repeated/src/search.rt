@@ -16,7 +16,7 @@ pub(crate) fn search_from(t: &[i32], hint: u64, rect: Rect) -> Result<usize, Met
     ensures { Searches t.now (area_of rect.area) result }
 {
     let from = seek::start(t, hint);
-    seek::search(t, from, rect)
+    seek::search(t, from, rect.area)
 }
 
 fn search_often(t: &[i32], rect: Rect, from: u32, times: u32) -> Result<usize, Met>

@@ -4,7 +4,7 @@ ghost use Rattle.geometry.specs.Picture.{ZERO};
 ghost use Rattle.table.specs.Words.{records_of};
 ghost use Rattle.table.specs.Sound.{SizeRight, UsedIn};
 ghost use Rattle.table.specs.Forms.{Forms};
-ghost use Rattle.seek.specs.Meaning.{Meets};
+ghost use Rattle.seek.specs.Meaning.{RectRight, Meets};
 ghost use Rattle.seek.specs.Walk.{Goes};
 ghost use Rattle.seek.specs.Writing.{over, words};
 ghost use Rattle.seek.specs.RightSide.{Floor, Follows};
@@ -12,7 +12,6 @@ ghost use Rattle.seek.specs.Enumerate.{area_of, WritesTree, WritesArea, CountsAr
 
 use crate::area::Area;
 use crate::cell::find;
-use crate::rect::Rect;
 use crate::side::{Side, Walk, along};
 use table::numbers::{BOTTOM, LOW, RIGHT};
 
@@ -84,19 +83,20 @@ fn subtree(t: &[i32], out: &mut [i32], p: usize, area: &Area) -> usize
 }
 
 // The tiles of the area in directed order, as many as the list has room for. How many there are. Down the left edge as in `search`, with a law of its own.
-pub fn list_area(t: &[i32], out: &mut [i32], from: usize, rect: Rect) -> usize
+pub fn list_area(t: &[i32], out: &mut [i32], from: usize, area: Area) -> usize
     requires forms { Forms t.now }
     requires size_right { SizeRight t.now }
     requires used_in { UsedIn t.now from }
-    ensures { WritesArea t.now (area_of rect.area) out.old out.new result }
+    requires rect_right { RectRight (area_of area) }
+    ensures { WritesArea t.now (area_of area) out.old out.new result }
 {
     let mut n: usize = 0;
     let mut k = from;
-    let mut y = rect.area.top;
-    while rect.area.bottom < y {
-        k = find(t, k, rect.area.left, y - 1);
+    let mut y = area.top;
+    while area.bottom < y {
+        k = find(t, k, area.left, y - 1);
         let at = n.min(out.len());
-        let c = subtree(t, &mut out[at..], k, &rect.area);
+        let c = subtree(t, &mut out[at..], k, &area);
         n += c;
         y = table::word(t, k, BOTTOM);
     }
@@ -104,11 +104,12 @@ pub fn list_area(t: &[i32], out: &mut [i32], from: usize, rect: Rect) -> usize
 }
 
 // How many tiles the area has: nothing is written where there is no room.
-pub fn count_area(t: &[i32], from: usize, rect: Rect) -> usize
+pub fn count_area(t: &[i32], from: usize, area: Area) -> usize
     requires forms { Forms t.now }
     requires size_right { SizeRight t.now }
     requires used_in { UsedIn t.now from }
-    ensures { CountsArea t.now (area_of rect.area) result }
+    requires rect_right { RectRight (area_of area) }
+    ensures { CountsArea t.now (area_of area) result }
 {
-    list_area(t, &mut [], from, rect)
+    list_area(t, &mut [], from, area)
 }

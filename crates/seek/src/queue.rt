@@ -4,6 +4,7 @@ ghost use Rattle.geometry.specs.Picture.{ZERO};
 ghost use Rattle.table.specs.Words.{records_of};
 ghost use Rattle.table.specs.Sound.{SizeRight, UsedIn};
 ghost use Rattle.table.specs.Forms.{Forms};
+ghost use Rattle.seek.specs.Meaning.{RectRight};
 ghost use Rattle.seek.specs.Enumerate.{area_of};
 ghost use Rattle.seek.specs.Queue.{named, put, Queue, Gathers};
 
@@ -86,17 +87,18 @@ fn put_hanging(t: &[i32], list: &mut [i32], i: usize, n: usize, area: Area) -> u
 
 // The tiles of the area, each once. How many there are. The list has room for every record and one more. The end of the loop moves as tiles are found, so
 // it is no range.
-pub fn gather(t: &[i32], list: &mut [i32], from: usize, rect: Rect) -> usize
+pub fn gather(t: &[i32], list: &mut [i32], from: usize, area: Area) -> usize
     requires forms { Forms t.now }
     requires size_right { SizeRight t.now }
     requires used_in { UsedIn t.now from }
+    requires rect_right { RectRight (area_of area) }
     requires t_in_bounds { records_of t.now < length list.old }
-    ensures { Gathers t.now (area_of rect.area) list.new result }
+    ensures { Gathers t.now (area_of area) list.new result }
 {
-    let mut n = put_roots(t, list, from, rect);
+    let mut n = put_roots(t, list, from, Rect { area });
     let mut i: usize = 0;
     while i < n {
-        n = put_hanging(t, list, i, n, rect.area);
+        n = put_hanging(t, list, i, n, area);
         i += 1;
     }
     n

@@ -3,12 +3,12 @@ ghost use Rattle.std.specs.Prelude.{◌<◌, ◌≤◌};
 ghost use Rattle.geometry.specs.Picture.{HIGH, InPlane};
 ghost use Rattle.table.specs.Sound.{SizeRight, UsedIn};
 ghost use Rattle.table.specs.Forms.{Forms};
+ghost use Rattle.seek.specs.Meaning.{RectRight};
 ghost use Rattle.seek.specs.Enumerate.{area_of};
 ghost use Rattle.seek.specs.Search.{Searches, InRow};
 
 use crate::area::Area;
 use crate::cell::find;
-use crate::rect::Rect;
 use table::numbers::{BOTTOM, KIND, RIGHT, SOLID};
 
 // The solid that holds the area's first occupied cell, and that cell.
@@ -49,18 +49,19 @@ fn in_row(t: &[i32], from: usize, left: u64, right: u64, y: u64) -> Result<usize
 // The tile that the search met last, where no solid holds a cell of the area.
 // The walk down the area's left edge stands here, in list_area and in put_roots: what is done with the tile met differs, and with it each law. Its rows are not
 // counted by one: each tile met tells the next.
-pub fn search(t: &[i32], from: usize, rect: Rect) -> Result<usize, Met>
+pub fn search(t: &[i32], from: usize, area: Area) -> Result<usize, Met>
     requires forms { Forms t.now }
     requires size_right { SizeRight t.now }
     requires used_in { UsedIn t.now from }
-    ensures { Searches t.now (area_of rect.area) result }
+    requires rect_right { RectRight (area_of area) }
+    ensures { Searches t.now (area_of area) result }
 {
     let Area {
         left,
         bottom,
         right,
         top,
-    } = rect.area;
+    } = area;
     let mut k = from;
     let mut y = top;
     while bottom < y {

@@ -30,7 +30,7 @@ fn may_create(
     if label <= numbers::ZERO {
         return Err(MetAnswer::from(Refusal::Label));
     }
-    match seek::search(t, from, rect) {
+    match seek::search(t, from, rect.area) {
         Err(met) => Err(with_cell(
             refused_with(Refusal::Occupied, met.tile as u64),
             met.x,

@@ -77,7 +77,7 @@ fn search_in(t: &[i32], rect: Rect) -> MetAnswer
     ensures { SearchSays t.now (area_of rect.area) result }
 {
     let from = seek::first_used(t);
-    match seek::search(t, from, rect) {
+    match seek::search(t, from, rect.area) {
         Ok(_) => MetAnswer::from(Answer {
             number: DONE,
             value: NOTHING,
@@ -102,12 +102,12 @@ fn enumerate_in(t: &[i32], rect: Rect, out: &mut [i32]) -> Answer
 {
     let from = seek::first_used(t);
     if out.len() < table::records(t) {
-        let needed = seek::count_area(t, from, rect);
+        let needed = seek::count_area(t, from, rect.area);
         if out.len() < needed {
             return refused_with(Refusal::Short, needed as u64);
         }
     }
-    let written = seek::list_area(t, out, from, rect);
+    let written = seek::list_area(t, out, from, rect.area);
     done(written as u64)
 }
 

@@ -6,14 +6,14 @@ use Rattle.seek.specs.Roots.{descending_starts, descending_ends, descending_shor
 use Rattle.seek.proofs.directed.list_area.Goals as goal
 
 pub loop-y-init : goal.loop-y-init
-loop-y-init c = descending_starts _ c.requires.forms _ c.args.rect.right _ _ c.requires.used_in
+loop-y-init c = descending_starts _ c.requires.forms _ c.requires.rect_right _ _ c.requires.used_in
 
 pub overflow_add-n : goal.overflow_add-n
 overflow_add-n c =
     let r = c.subtree-c.ensures in
     omega (
       arith,
-      descending_short _ c.requires.forms _ c.args.rect.right _ _ _ _ _ c.loop-y.invariant,
+      descending_short _ c.requires.forms _ c.requires.rect_right _ _ _ _ _ c.loop-y.invariant,
       tree_short _ c.requires.forms _ _ _ c.find-k.ensures.used r.is,
       r.count,
       c.requires.size_right.most,
@@ -22,9 +22,9 @@ overflow_add-n c =
 pub loop-y-preserved : goal.loop-y-preserved
 loop-y-preserved c =
     rw c.word-y.ensures.is
-    (descending_on _ c.requires.forms _ c.args.rect.right _ _ c.loop-y-test.true c.loop-y.invariant.to c.find-k.ensures _ _ _ _ c.loop-y.invariant _ _ _
+    (descending_on _ c.requires.forms _ c.requires.rect_right _ _ c.loop-y-test.true c.loop-y.invariant.to c.find-k.ensures _ _ _ _ c.loop-y.invariant _ _ _
     c.min-at.ensures c.subtree-c.ensures)
 
 pub returns : goal.returns
 returns c =
-    descending_ends _ c.requires.forms _ c.args.rect.right _ _ _ _ _ c.loop-y.invariant c.loop-y-test.false
+    descending_ends _ c.requires.forms _ c.requires.rect_right _ _ _ _ _ c.loop-y.invariant c.loop-y-test.false

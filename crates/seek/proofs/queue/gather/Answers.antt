@@ -11,5 +11,5 @@ pub returns : goal.returns
 returns c =
     let q = c.loop-i.invariant in
     let e : c.loop-i.i ≡ c.loop-i.n = omega (arith, c.loop-i-test.false, q.to) in
-    queue_gathers _ c.requires.forms _ c.args.rect.right _ _
-    (subst (λ i. Queue c.args.t.now (area_of c.args.rect.area) c.loop-i.list i c.loop-i.n) e q)
+    queue_gathers _ c.requires.forms _ c.requires.rect_right _ _
+    (subst (λ i. Queue c.args.t.now (area_of c.args.area) c.loop-i.list i c.loop-i.n) e q)

@@ -6,7 +6,7 @@ use Rattle.seek.specs.Queue.{Queue}
 use Rattle.seek.proofs.queue.gather.Given as goal
 
 abbrev pub invariant-loop-i : goal.invariant-loop-i
-invariant-loop-i l = Queue l.t (area_of l.fn.rect.area) l.list l.i l.n
+invariant-loop-i l = Queue l.t (area_of l.fn.area) l.list l.i l.n
 
 abbrev pub decreases-loop-i : goal.decreases-loop-i
 decreases-loop-i l = records_of l.t - l.i

@@ -4,7 +4,7 @@ use Rattle.seek.specs.Search.{FreeFrom}
 use Rattle.seek.proofs.rows.search.Given as goal
 
 abbrev pub invariant-loop-y : goal.invariant-loop-y
-invariant-loop-y l = FreeFrom l.t (area_of l.fn.rect.area) l.y l.k
+invariant-loop-y l = FreeFrom l.t (area_of l.fn.area) l.y l.k
 
 abbrev pub decreases-loop-y : goal.decreases-loop-y
 decreases-loop-y l = l.y

@@ -10,7 +10,7 @@ use Rattle.ushanderi.specs.Editing.{at_capacity}
 use Rattle.ushanderi.proofs.editing.may_create.Goals as goal
 
 pub search-requires : goal.search-requires
-search-requires c = record { forms = fit_forms _ c.requires.fit; size_right = c.requires.fit.size; used_in = c.requires.used }
+search-requires c = record { forms = fit_forms _ c.requires.fit; size_right = c.requires.fit.size; used_in = c.requires.used; rect_right = c.in_ok-rect.rect.right }
 
 pub returns-in-Err : goal.returns-in-Err
 returns-in-Err c =

@@ -14,7 +14,7 @@ first_used-from-requires c = fit_forms _ c.requires
 
 pub count_area-needed-requires : goal.count_area-needed-requires
 count_area-needed-requires c =
-    record { forms = fit_forms _ c.requires; size_right = c.requires.size; used_in = c.first_used-from.ensures.used }
+    record { forms = fit_forms _ c.requires; size_right = c.requires.size; used_in = c.first_used-from.ensures.used; rect_right = c.args.rect.right }
 
 pub refused_with-requires : goal.refused_with-requires
 refused_with-requires c = area_low _ _ _ c.requires c.count_area-needed.ensures
@@ -25,7 +25,7 @@ returns-then-out-needed c =
 
 pub list_area-written-requires : goal.list_area-written-requires
 list_area-written-requires c =
-    record { forms = fit_forms _ c.requires; size_right = c.requires.size; used_in = c.first_used-from.ensures.used }
+    record { forms = fit_forms _ c.requires; size_right = c.requires.size; used_in = c.first_used-from.ensures.used; rect_right = c.args.rect.right }
 
 pub done-requires : goal.done-requires
 done-requires c =

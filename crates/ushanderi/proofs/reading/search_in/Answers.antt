@@ -10,7 +10,7 @@ first_used-from-requires c = fit_forms _ c.requires
 
 pub search-requires : goal.search-requires
 search-requires c =
-    record { forms = fit_forms _ c.requires; size_right = c.requires.size; used_in = c.first_used-from.ensures.used }
+    record { forms = fit_forms _ c.requires; size_right = c.requires.size; used_in = c.first_used-from.ensures.used; rect_right = c.args.rect.right }
 
 pub returns-in-Err : goal.returns-in-Err
 returns-in-Err c =

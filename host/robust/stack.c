@@ -1,7 +1,7 @@
 /* How much stack the calls take. Every call is made on the table that takes it deepest, on a stack of exactly
  * USH_STACK_BYTES that ends at a page that nobody may touch, so a call that takes more ends the program. The stack is
  * painted before each call; what is no longer painted afterwards was used, and the run prints it. `robust/run` builds
- * and runs it. */
+ * and runs it: `stack_c LAYOUT`, with the saved layout that takes a save deepest. */
 #define _DEFAULT_SOURCE
 #include "ushanderi.h"
 
@@ -24,6 +24,7 @@ struct deepest {
 static int32_t table[WORDS], list[USH_MOST_RECORDS];
 static uint8_t bytes[SOLIDS * USH_SAVED_BYTES];
 static double shares[1];
+static const char *layout;
 static unsigned char *stack;
 static ucontext_t outside, inside;
 static const struct deepest *present;
@@ -63,6 +64,18 @@ static void load_squares(int count, int along_x)
 static void row(void)
 {
     load_squares(SOLIDS, 1);
+}
+
+/* A row of 1,000 solids, read from a file, whose order takes the sort of a save deepest: 19 of its calls stand on each
+ * other, as many as it makes at most. At each pivot nearly all keys that are left lie under it, and the squares lie so that
+ * the shuffle before the sort exchanges nothing. Other orders, 3,000 random ones among them, stay some 8 calls less deep. */
+static void deepest_row(void)
+{
+    FILE *file = fopen(layout, "rb");
+    must(file != NULL, "no layout");
+    must(fread(bytes, 1, sizeof bytes, file) == sizeof bytes, "the layout has not 1,000 solids");
+    fclose(file);
+    must(ush_load(table, WORDS, bytes, sizeof bytes).number == USH_DONE, "the layout is not loaded");
 }
 
 /* A place for one solid more, at the right of 999 that stand above each other. */
@@ -154,7 +167,7 @@ static const struct deepest calls[] = {
     {"density", row, density},
     {"create", column, create},
     {"delete", column_and_wall, delete},
-    {"save", row, save},
+    {"save", deepest_row, save},
     {"load", row, load},
 };
 enum { CALLS = sizeof calls / sizeof *calls };
@@ -183,8 +196,10 @@ static size_t measure(const struct deepest *call)
     return USH_STACK_BYTES - untouched;
 }
 
-int main(void)
+int main(int count, char **arguments)
 {
+    must(count == 2, "usage: stack_c LAYOUT");
+    layout = arguments[1];
     size_t page = (size_t)sysconf(_SC_PAGESIZE), most = 0;
     must(USH_STACK_BYTES % page == 0, "the stated size is no number of pages");
     unsigned char *all = mmap(NULL, USH_STACK_BYTES + page, PROT_NONE, MAP_PRIVATE | MAP_ANONYMOUS, -1, 0);
